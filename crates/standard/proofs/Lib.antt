@@ -1,0 +1,15 @@
+pub mod Words
+pub mod Put
+pub mod Sum
+pub mod Tables
+pub mod Messages
+pub mod Framings
+pub mod Judge
+pub mod Stream
+pub mod Replies
+pub mod Table
+pub mod Seen
+pub mod Shares
+pub mod Questions
+pub mod Applied
+pub mod Report

@@ -1,0 +1,244 @@
+-- Laws of the report: how long it is, for every capture. A verdict of a stream is one of 0 to 8, so each verdict line has 8 bytes; a capture of n
+-- bytes has at most n - 1 verdicts, since a start byte that ends it gives none; and the group lines are longest where nothing is heard.
+-- Assumes nothing.
+use Prim.Native.Nat.{ℕ, zero, suc, _+_, _-_, _*_, _/_, _%_, _≤_, _<_, zero-le}
+use native.Mathlib.Omega.{arith}
+use mathlib.Core.Path.{_≡_, refl, sym, ap, _∙_}
+use mathlib.Core.Bool.{Bool, true, false, cond, not, _&&_}
+use mathlib.Core.Option.{Option, none, some}
+use mathlib.Core.List.{List, [], _∷_, _++_, map, flatMap, append-assoc, append-nil}
+use lib.Dec.{eqb, leb, ltb, eqb·suc-zero}
+use lib.ListN.{length, take, drop, replicate, length-append, length-take, length-replicate}
+use borrow.Author.Tests.{lt-ltb, le-ltb, leb-true}
+use Rattle.standard.specs.declared.Framing.{Framing}
+use Rattle.standard.specs.declared.Framing.the-variants.{Binary, Ascii}
+use Rattle.standard.specs.Words.{upTo, total, firstOf}
+use Rattle.standard.specs.Messages.{lengthOk, messageTests}
+use Rattle.standard.specs.Framing.{startOf, Recovered, also, unstuff, recovered, digitsOf, pairs}
+use Rattle.standard.specs.Judge.{Handed, handing, Judged, decided, unfinished, carriesType, sumsDiffer, wholeOf, atStop, ended, stuck, plain, frameJudged, judge}
+use Rattle.standard.specs.Stream.{upToStart, partsOf, partHands, partsHand, handedOf}
+use Rattle.standard.specs.Replies.{replyOf}
+use Rattle.standard.specs.Table.{fresh, tableAfter}
+use Rattle.standard.specs.Overview.{heardOf, faultedOf, groupNumbers}
+use Rattle.standard.proofs.Messages.{both-true}
+use Rattle.standard.specs.Report.{mostRead, decimal, typeText, replyText, minus9999, verdictLine, groupLine, reportOn, reportOf}
+
+-- ---- lines after lines
+
+pub flatMap-append : {A B : Type 0} (f : A → List B) (a b : List A) → flatMap f (a ++ b) ≡ flatMap f a ++ flatMap f b
+unfolding flatMap
+flatMap-append f [] b = refl
+flatMap-append f (x ∷ a) b = ap (λ l. f x ++ l) (flatMap-append f a b) ∙ sym (append-assoc (f x) (flatMap f a) (flatMap f b))
+
+-- lines of which each has at most so many bytes
+flatMap-le : {A : Type 0} (f : A → List ℕ) (most : A → ℕ) → ((x : A) → length (f x) ≤ most x) → (l : List A)
+    → length (flatMap f l) ≤ total (map most l)
+unfolding flatMap total
+flatMap-le f most h [] = zero-le
+flatMap-le f most h (x ∷ l) = let a = h x in let b = flatMap-le f most h l in simp length-append (omega arith)
+
+-- ---- a verdict of a stream is one of 0 to 8
+
+-- that the number beside each test is at most so much
+abbrev numbersWithin : ℕ → List (Bool × ℕ) → Bool
+numbersWithin most [] = true
+numbersWithin most (test ∷ tests) = leb (test .1) most && numbersWithin most tests
+
+first-within : (most : ℕ) (tests : List (Bool × ℕ)) → numbersWithin most tests ≡ true → firstOf tests ≤ most
+first-within most [] h = zero-le
+first-within most ((true, n) ∷ tests) h = leb-true n most (both-true (leb n most) (numbersWithin most tests) h .0)
+first-within most ((false, n) ∷ tests) h = first-within most tests (both-true (leb n most) (numbersWithin most tests) h .1)
+
+abbrev OnSheet : Judged → Type 0
+OnSheet (decided h) = h .verdict ≤ 8
+OnSheet unfinished = Unit
+
+stop-sheet : (cs : List ℕ) (L : ℕ) (rest : List ℕ) → OnSheet (atStop cs L rest)
+unfolding wholeOf
+stop-sheet [] L rest = tt
+stop-sheet (c ∷ cs) L rest = first-within 8 ((not (eqb c 0x0D), 3) ∷ (sumsDiffer L rest, 5) ∷ messageTests (take L rest)) refl
+
+ended-sheet : (f : Framing) (after : List ℕ) (L : ℕ) (rest : List ℕ) → OnSheet (ended f after L rest)
+unfolding wholeOf
+ended-sheet Binary after L rest = first-within 8 ((sumsDiffer L rest, 5) ∷ messageTests (take L rest)) refl
+ended-sheet Ascii after L rest = stop-sheet (drop (2 * (L + 3)) after) L rest
+
+-- recovering a binary part never stops
+unstuff-goes : (escape : Bool) (bs : List ℕ) → unstuff escape bs .fault ≡ none
+unfolding unstuff
+unstuff-goes escape [] = refl
+unstuff-goes true (b ∷ bs) = unstuff-goes false bs
+unstuff-goes false (b ∷ bs) = by (eqb b 0x7D) (unstuff (eqb b 0x7D) bs) (unstuff-goes (eqb b 0x7D) bs)
+  where
+    by : (t : Bool) (r : Recovered) → r .fault ≡ none → cond t r (also b r) .fault ≡ none
+    by true r h = h
+    by false r h = h
+
+digits-sheet : (t : Bool) → OnSheet (stuck (cond t (some 2) none))
+digits-sheet true = omega arith
+digits-sheet false = tt
+
+fault-sheet : (f : Framing) (after : List ℕ) → OnSheet (stuck (recovered f after .fault))
+fault-sheet Binary after = rw unstuff-goes tt
+fault-sheet Ascii after = digits-sheet (ltb (length (digitsOf after)) (length after))
+
+frame-sheet : (bytes : List ℕ) (fault : Option ℕ) (end : ℕ → List ℕ → Judged) → OnSheet (stuck fault)
+    → ((L : ℕ) (rest : List ℕ) → OnSheet (end L rest)) → OnSheet (frameJudged bytes fault end)
+frame-sheet [] fault end s e = s
+frame-sheet (L ∷ rest) fault end s e = by (lengthOk L) (ltb (length rest) (L + 2))
+  where
+    by : (a b : Bool) → OnSheet (cond a (cond b (stuck fault) (end L rest)) (plain 4))
+    by false b = omega arith
+    by true true = s
+    by true false = e L rest
+
+pub judge-sheet : (f : Framing) (part : List ℕ) → OnSheet (judge f part)
+judge-sheet f part =
+    let after = drop 1 part in
+    frame-sheet (recovered f after .bytes) (recovered f after .fault) (ended f after) (fault-sheet f after) (ended-sheet f after)
+
+-- ---- how long the lines are
+
+pub one-digit : (n : ℕ) → n < 10 → decimal n ≡ (48 + n) ∷ []
+one-digit n h = rw (lt-ltb n 10 h)
+
+pub two-digits : (n : ℕ) → 10 ≤ n → decimal n ≡ (48 + n / 10) ∷ (48 + n % 10) ∷ []
+two-digits n h = rw (le-ltb n 10 h)
+
+either-two : (t : Bool) (a b c d : ℕ) → length (cond t (a ∷ b ∷ []) (c ∷ d ∷ [])) ≡ 2
+either-two true a b c d = refl
+either-two false a b c d = refl
+
+pub type-length : (h : Handed) → length (typeText h) ≡ 2
+type-length h = either-two (carriesType (h .verdict)) _ _ _ _
+
+pub reply-length : (reply : ℕ) → length (replyText reply) ≡ 2
+reply-length reply = either-two (eqb reply 0) _ _ _ _
+
+-- the verdict, two bytes for each other field, two spaces and the line's end
+pub line-length : (h : Handed) → length (verdictLine h) ≡ length (decimal (h .verdict)) + 7
+line-length h =
+    let a = type-length h in
+    let b = reply-length (replyOf (h .verdict) (h .typeByte)) in
+    simp length-append (omega arith)
+
+verdict-length : (h : Handed) → h .verdict ≤ 8 → length (verdictLine h) ≡ 8
+verdict-length h small = let e = ap length (one-digit (h .verdict) (omega arith)) in let f = line-length h in omega arith
+
+-- the line of a part's verdict, and those of all
+one-length : (h : Handed) → h .verdict ≤ 8 → length (flatMap verdictLine (h ∷ [])) ≡ 8
+unfolding flatMap
+one-length h small = ap length (append-nil (verdictLine h)) ∙ verdict-length h small
+
+part-length : (j : Judged) (later : List (List ℕ)) → OnSheet j
+    → length (flatMap verdictLine (partHands j later)) ≡ 8 * length (partHands j later)
+unfolding flatMap
+part-length (decided h) later small = one-length h small
+part-length unfinished [] small = refl
+part-length unfinished (part ∷ later) small = one-length (handing 1 []) (omega arith)
+
+parts-length : (f : Framing) (parts : List (List ℕ)) → length (flatMap verdictLine (partsHand f parts)) ≡ 8 * length (partsHand f parts)
+unfolding flatMap
+parts-length f [] = refl
+parts-length f (part ∷ later) =
+    let a = part-length (judge f part) later (judge-sheet f part) in
+    let b = parts-length f later in
+    simp (flatMap-append, length-append) (omega arith)
+
+pub verdicts-length : (f : Framing) (stream : List ℕ) → length (flatMap verdictLine (handedOf f stream)) ≡ 8 * length (handedOf f stream)
+verdicts-length f stream = parts-length f (partsOf (startOf f) stream)
+
+decimal-length : (n : ℕ) → length (decimal n) ≤ 2
+decimal-length n = by (ltb n 10)
+  where
+    by : (t : Bool) → length (cond t ((48 + n) ∷ []) ((48 + n / 10) ∷ (48 + n % 10) ∷ [])) ≤ 2
+    by true = omega arith
+    by false = omega arith
+
+-- longest where nothing is heard: the group and ` 0 -9999`, with the line's end
+group-length : (t : List ℕ) (k : ℕ) → length (groupLine t k) ≤ length (decimal k) + 9
+group-length t k = by (heardOf t k)
+  where
+    by : (heard : ℕ)
+        → length (decimal k ++ (0x20 ∷ decimal heard) ++ (0x20 ∷ cond (eqb heard 0) minus9999 (decimal (faultedOf t k))) ++ (0x0A ∷ []))
+        ≤ length (decimal k) + 9
+    by zero = simp length-append (omega arith)
+    by (suc n) =
+        let a = decimal-length (suc n) in
+        let b = decimal-length (faultedOf t k) in
+        simp (eqb·suc-zero, length-append) (omega arith)
+
+pub groups-length : (t : List ℕ) → length (flatMap (groupLine t) groupNumbers) ≤ 167
+unfolding upTo total
+groups-length t = flatMap-le (groupLine t) (λ k. length (decimal k) + 9) (group-length t) groupNumbers
+
+-- ---- how many verdicts there are
+
+-- a start byte and nothing after it
+alone : (f : Framing) (b : ℕ) → judge f (b ∷ []) ≡ unfinished
+unfolding unstuff digitsOf pairs
+alone Binary b = refl
+alone Ascii b = refl
+
+part-one : (j : Judged) (later : List (List ℕ)) → length (partHands j later) ≤ 1
+part-one (decided h) later = omega arith
+part-one unfinished [] = zero-le
+part-one unfinished (part ∷ later) = omega arith
+
+few-after : (f : Framing) (b : ℕ) (bs : List ℕ) → length (handedOf f (b ∷ bs)) ≤ length bs
+few-after f b [] = by (eqb b (startOf f))
+  where
+    by : (t : Bool) → length (partsHand f (cond t ((b ∷ []) ∷ []) [])) ≤ 0
+    by true = rw alone zero-le
+    by false = zero-le
+few-after f b (c ∷ cs) = by (eqb b (startOf f)) (partsOf (startOf f) (c ∷ cs)) (few-after f c cs)
+  where
+    by : (t : Bool) (later : List (List ℕ)) → length (partsHand f later) ≤ length cs
+        → length (partsHand f (cond t ((b ∷ upToStart (startOf f) (c ∷ cs)) ∷ later) later)) ≤ suc (length cs)
+    by true later h =
+        let a = part-one (judge f (b ∷ upToStart (startOf f) (c ∷ cs))) later in
+        simp length-append (omega arith)
+    by false later h = omega arith
+
+-- each start byte gives at most one verdict, and one that ends the stream none
+pub verdicts-few : (f : Framing) (stream : List ℕ) → length (handedOf f stream) ≤ length stream - 1
+verdicts-few f [] = zero-le
+verdicts-few f (b ∷ bs) = let h = few-after f b bs in omega arith
+
+-- ---- the whole report
+
+pub report-length : (stream : List ℕ)
+    → let hs = handedOf Binary stream in
+    length (reportOn hs) ≡ 8 * length hs + length (flatMap (groupLine (tableAfter fresh hs)) groupNumbers)
+unfolding reportOn
+report-length stream = let e = verdicts-length Binary stream in simp length-append (omega arith)
+
+-- THE ROOM that is enough for every capture
+pub room : (capture : List ℕ) → length (reportOf capture) ≤ 524447
+room capture =
+    let stream = take mostRead capture in
+    let few = verdicts-few Binary stream in
+    let groups = groups-length (tableAfter fresh (handedOf Binary stream)) in
+    omega (arith, report-length stream, length-take mostRead capture)
+
+-- no less would do: of n + 1 start bytes each but the last is cut short, and nothing is heard
+starts-hand : (n : ℕ) → handedOf Binary (replicate (suc n) 0x7E) ≡ replicate n (handing 1 [])
+unfolding unstuff
+starts-hand zero = refl
+starts-hand (suc n) = ap (λ hs. handing 1 [] ∷ hs) (starts-hand n)
+
+starts-leave : (t : List ℕ) (n : ℕ) → tableAfter t (replicate n (handing 1 [])) ≡ t
+unfolding tableAfter
+starts-leave t zero = refl
+starts-leave t (suc n) = starts-leave t n
+
+fresh-length : length (flatMap (groupLine fresh) groupNumbers) ≡ 167
+unfolding flatMap upTo total heardOf fresh
+fresh-length = refl
+
+pub room-reached : (n : ℕ) → length (reportOn (handedOf Binary (replicate (suc n) 0x7E))) ≡ 8 * n + 167
+room-reached n =
+    let many = ap length (starts-hand n) ∙ length-replicate n (handing 1 []) in
+    let table = ap (tableAfter fresh) (starts-hand n) ∙ starts-leave fresh n in
+    let groups = ap (λ t. length (flatMap (groupLine t) groupNumbers)) table ∙ fresh-length in
+    omega (arith, report-length (replicate (suc n) 0x7E))

@@ -1,0 +1,12 @@
+pub mod Words
+pub mod Sums
+pub mod Messages
+pub mod Framing
+pub mod Judge
+pub mod Stream
+pub mod Writer
+pub mod Replies
+pub mod Table
+pub mod Questions
+pub mod Overview
+pub mod Report

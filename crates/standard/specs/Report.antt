@@ -1,0 +1,76 @@
+-- Document 01, "The program `nxread`": its text, as bytes. Assumes nothing.
+use Prim.Native.Nat.{ℕ, _+_, _/_, _%_}
+use mathlib.Core.Path.{_≡_}
+use mathlib.Core.Bool.{cond}
+use mathlib.Core.List.{List, [], _∷_, _++_, flatMap}
+use lib.Dec.{eqb, ltb}
+use lib.ListN.{length, take}
+use Rattle.standard.specs.declared.Framing.the-variants.{Binary}
+use Rattle.standard.specs.declared.Written.{Written}
+use Rattle.standard.specs.Words.{laid}
+use Rattle.standard.specs.Framing.{twoDigits}
+use Rattle.standard.specs.Judge.{Handed, carriesType}
+use Rattle.standard.specs.Stream.{handedOf}
+use Rattle.standard.specs.Replies.{replyOf}
+use Rattle.standard.specs.Table.{fresh, tableAfter}
+use Rattle.standard.specs.Overview.{heardOf, faultedOf, groupNumbers}
+
+-- "at most its first 65,536 bytes"
+abbrev pub mostRead : ℕ
+mostRead = 65536
+
+-- a number below 100 in decimal; the greatest printed is 16
+abbrev pub decimal : ℕ → List ℕ
+decimal n = cond (ltb n 10) ((48 + n) ∷ []) ((48 + n / 10) ∷ (48 + n % 10) ∷ [])
+
+-- `--`
+abbrev pub dashes : List ℕ
+dashes = 0x2D ∷ 0x2D ∷ []
+
+-- "the type byte with bit 7 clear in two hex digits (for 0, 6, 7, 8, else `--`)"
+abbrev pub typeText : Handed → List ℕ
+typeText h = cond (carriesType (h .verdict)) (twoDigits (h .typeByte % 128)) dashes
+
+-- "reply number in two hex digits or `--`"
+abbrev pub replyText : ℕ → List ℕ
+replyText reply = cond (eqb reply 0) dashes (twoDigits reply)
+
+-- "One space parts fields, 0Ah ends each line"
+abbrev pub verdictLine : Handed → List ℕ
+verdictLine h =
+    decimal (h .verdict) ++ (0x20 ∷ typeText h) ++ (0x20 ∷ replyText (replyOf (h .verdict) (h .typeByte))) ++ (0x0A ∷ [])
+
+-- minus 9999, which "exists only in print"
+abbrev pub minus9999 : List ℕ
+minus9999 = 0x2D ∷ 0x39 ∷ 0x39 ∷ 0x39 ∷ 0x39 ∷ []
+
+-- "group, heard, faulted; or group, 0, -9999"
+abbrev pub groupLine : List ℕ → ℕ → List ℕ
+groupLine t k =
+    decimal k ++ (0x20 ∷ decimal (heardOf t k)) ++ (0x20 ∷ cond (eqb (heardOf t k) 0) minus9999 (decimal (faultedOf t k))) ++ (0x0A ∷ [])
+
+-- "For each verdict one line", "then a line for each group"
+unfoldable pub reportOn : List Handed → List ℕ
+reportOn hs = flatMap verdictLine hs ++ flatMap (groupLine (tableAfter fresh hs)) groupNumbers
+
+-- THE REPORT on a capture
+abbrev pub reportOf : List ℕ → List ℕ
+reportOf capture = reportOn (handedOf Binary (take mostRead capture))
+
+-- ---- the report in a lent buffer
+
+-- 9: "does not fit"; "a refusal says length 0"
+abbrev pub reportedOf : List ℕ → List ℕ → Written
+reportedOf capture out =
+    cond (ltb (length out) (length (reportOf capture)))
+    (record { number = 9; length = 0 })
+    (record { number = 0; length = length (reportOf capture) })
+
+-- the report at the beginning of the buffer, whose other bytes stay; a refusal leaves it
+abbrev pub afterReport : List ℕ → List ℕ → List ℕ
+afterReport capture out = cond (ltb (length out) (length (reportOf capture))) out (laid out 0 (reportOf capture))
+
+-- what `report` promises: its answer, and every byte of the buffer
+pub record Reported (capture out : List ℕ) (answer : Written) (after : List ℕ) : Type 0 where
+  pub says : answer ≡ reportedOf capture out
+  pub leaves : after ≡ afterReport capture out

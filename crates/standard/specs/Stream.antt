@@ -1,0 +1,32 @@
+-- Demand 3: an uncut stream, split before every start byte, and what its parts hand out. Assumes nothing.
+use Prim.Native.Nat.{ℕ}
+use mathlib.Core.Bool.{cond}
+use mathlib.Core.List.{List, [], _∷_, _++_}
+use lib.Dec.{eqb}
+use Rattle.standard.specs.declared.Framing.{Framing}
+use Rattle.standard.specs.Framing.{startOf}
+use Rattle.standard.specs.Judge.{Handed, Judged, decided, unfinished, handing, judge}
+
+-- the bytes before the next start byte, or all
+abbrev pub upToStart : ℕ → List ℕ → List ℕ
+upToStart start [] = []
+upToStart start (b ∷ bs) = cond (eqb b start) [] (b ∷ upToStart start bs)
+
+-- at every start byte a part begins; "bytes before the first start" are in no part
+abbrev pub partsOf : ℕ → List ℕ → List (List ℕ)
+partsOf start [] = []
+partsOf start (b ∷ bs) = let later = partsOf start bs in cond (eqb b start) ((b ∷ upToStart start bs) ∷ later) later
+
+-- "an unfinished part is cut short if another start follows, silent if none does"
+abbrev pub partHands : Judged → List (List ℕ) → List Handed
+partHands (decided h) later = h ∷ []
+partHands unfinished [] = []
+partHands unfinished (part ∷ later) = handing 1 [] ∷ []
+
+abbrev pub partsHand : Framing → List (List ℕ) → List Handed
+partsHand f [] = []
+partsHand f (part ∷ later) = partHands (judge f part) later ++ partsHand f later
+
+-- THE VERDICTS, messages and type bytes of an uncut stream
+abbrev pub handedOf : Framing → List ℕ → List Handed
+handedOf f stream = partsHand f (partsOf (startOf f) stream)
