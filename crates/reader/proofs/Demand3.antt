@@ -1,0 +1,103 @@
+-- DEMAND 3 for verdicts, type bytes and messages: however a stream is cut into reads, a fresh reader hands out what the parts of the uncut stream
+-- do, each judged from its whole bytes. One proof for both framings. Assumes nothing.
+use Prim.Native.Nat.{ℕ, zero, suc, _+_, _-_, _≤_}
+use native.Mathlib.Omega.{arith}
+use mathlib.Core.Path.{_≡_, refl, sym, ap, _∙_}
+use mathlib.Core.Bool.{true}
+use mathlib.Core.List.{List, [], _∷_, _++_, append-assoc}
+use lib.ListN.{length, take, drop, length-append, length-drop, take-append-drop}
+use Rattle.standard.specs.declared.Framing.{Framing}
+use Rattle.standard.specs.Messages.{checkOf}
+use Rattle.standard.specs.Framing.{startOf, frameOf}
+use Rattle.standard.specs.Judge.{Handed, handing}
+use Rattle.standard.specs.Stream.{handedOf}
+use Rattle.standard.proofs.Framings.{Bytes}
+use Rattle.standard.proofs.Stream.{handed-amid}
+use Rattle.reader.specs.declared.Reader.{Reader}
+use Rattle.reader.specs.Read.{Read, scanOf, stateOf, soundReader, freshReader, readOf}
+use Rattle.reader.specs.Calls.{joined, handedBefore, callsOf, drive, Calls, finished, call}
+use Rattle.reader.proofs.Arrays.{read-sound, state-read, sound-read}
+use Rattle.reader.proofs.Parts.{run, run-append, run-parts}
+use Rattle.reader.proofs.Scans.{Scanned, scanned}
+
+-- ---- one call
+
+module _ (r : Reader) (bs : List ℕ) (h : soundReader r ≡ true) where
+  abbrev scan : Read
+  scan = scanOf (stateOf r) bs
+
+  -- what a call hands out, then what is left and whatever follows
+  one-call : (rest : List ℕ)
+      → run (stateOf r) (bs ++ rest) ≡ readOf r bs .said ++ run (stateOf (readOf r bs .reader)) (drop (readOf r bs .used) bs ++ rest)
+  one-call rest =
+      let s = stateOf r in
+      let first = take (scan .used) bs in
+      let left = drop (scan .used) bs in
+      let w : Scanned s bs scan = scanned s bs in
+      rw (state-read r bs h, read-sound r bs h)
+      (ap (λ l. run s (l ++ rest)) (sym (take-append-drop (scan .used) bs))
+      ∙ ap (run s) (append-assoc first left rest)
+      ∙ run-append s first (left ++ rest)
+      ∙ rw (w .here, w .goes-to))
+
+  -- a call that used no byte had none
+  used-none : readOf r bs .used ≡ 0 → length bs ≡ 0
+  used-none e =
+      let w : Scanned (stateOf r) bs scan = scanned (stateOf r) bs in
+      let z : scan .used ≡ 0 = rw (read-sound r bs h) at e in
+      sym (w .or-all (sym (rw z at (w .here)))) ∙ z
+
+-- ---- every caller
+
+calls-run : {r : Reader} {reads : List (List ℕ)} {hs : List Handed} → Calls r reads hs → soundReader r ≡ true → hs ≡ run (stateOf r) (joined reads)
+calls-run finished h = refl
+calls-run (call {r} {bs} {reads} {again} {hs} e c) h =
+    ap (λ l. readOf r bs .said ++ l) (calls-run c (sound-read r bs h) ∙ ap (run (stateOf (readOf r bs .reader))) e)
+    ∙ sym (one-call r bs h (joined reads))
+
+-- cut again as it likes
+pub any-caller : (f : Framing) {reads : List (List ℕ)} {hs : List Handed} → Calls (freshReader f) reads hs → hs ≡ handedOf f (joined reads)
+any-caller f {reads} c = calls-run c refl ∙ run-parts f [] (joined reads) (tt, refl)
+
+-- ---- the caller that hands in what is left, then the next read
+
+joined-before : (left : List ℕ) (reads : List (List ℕ)) → joined (handedBefore left reads) ≡ left ++ joined reads
+joined-before [] reads = refl
+joined-before (b ∷ left) reads = refl
+
+-- calls enough for the bytes and the reads that are left
+abbrev Enough : ℕ → List (List ℕ) → Type 0
+Enough n reads = length (joined reads) + length reads ≤ n
+
+enough-left : (n used : ℕ) (bs left : List ℕ) (reads : List (List ℕ)) → length left ≡ length bs - used → (used ≡ 0 → length bs ≡ 0)
+    → Enough (suc n) (bs ∷ reads) → Enough n (handedBefore left reads)
+enough-left n used bs [] reads e z k = omega (arith, length-append bs (joined reads))
+enough-left n zero bs (b ∷ left) reads e z k = absurd (omega (arith, z refl))
+enough-left n (suc used) bs (b ∷ left) reads e z k = omega (arith, length-append bs (joined reads), length-append left (joined reads))
+
+calls-made : (n : ℕ) (r : Reader) (reads : List (List ℕ)) → soundReader r ≡ true → Enough n reads → Calls r reads (callsOf n r reads)
+unfolding callsOf
+calls-made zero r [] h k = finished
+calls-made zero r (bs ∷ reads) h k = absurd (omega arith)
+calls-made (suc n) r [] h k = finished
+calls-made (suc n) r (bs ∷ reads) h k =
+    let used = readOf r bs .used in
+    let left = drop used bs in
+    call (joined-before left reads)
+    (calls-made n (readOf r bs .reader) (handedBefore left reads) (sound-read r bs h)
+    (enough-left n used bs left reads (length-drop used bs) (used-none r bs h) k))
+
+-- HOWEVER THE STREAM IS CUT INTO READS
+pub reads-are-parts : (f : Framing) (reads : List (List ℕ)) → drive (freshReader f) reads ≡ handedOf f (joined reads)
+unfolding drive
+reads-are-parts f reads =
+    any-caller f (calls-made (length (joined reads) + length reads) (freshReader f) reads refl (omega arith))
+
+-- so only the bytes count, and not the cuts
+pub cuts : (f : Framing) (reads others : List (List ℕ)) → joined reads ≡ joined others → drive (freshReader f) reads ≡ drive (freshReader f) others
+cuts f reads others e = reads-are-parts f reads ∙ ap (handedOf f) e ∙ sym (reads-are-parts f others)
+
+-- an intact frame is reported after all kinds of noise, and whatever follows it
+pub intact : (f : Framing) (p m q : List ℕ) (reads : List (List ℕ)) → checkOf m ≡ 0 → Bytes m → joined reads ≡ p ++ (frameOf f m ++ q)
+    → drive (freshReader f) reads ≡ handedOf f (p ++ (startOf f ∷ [])) ++ (handing 0 m ∷ handedOf f q)
+intact f p m q reads h b e = reads-are-parts f reads ∙ ap (handedOf f) e ∙ handed-amid f p m q h b

@@ -1,0 +1,4 @@
+pub mod Step
+pub mod Read
+pub mod Calls
+pub mod Decide

@@ -1,0 +1,81 @@
+-- Document 01: "Given a read, the reader goes up to and including the first verdict's byte, or to the end, and says how many bytes it used."
+-- And what `step` and `read` promise. Assumes nothing.
+use Prim.Native.Nat.{ℕ, suc}
+use mathlib.Core.Path.{_≡_}
+use mathlib.Core.Bool.{Bool, cond}
+use mathlib.Core.List.{List, [], _∷_, map}
+use lib.ListN.{length, getD, take, replicate}
+use Rattle.standard.specs.declared.Framing.{Framing}
+use Rattle.standard.specs.declared.Said.{Said}
+use Rattle.standard.specs.Words.{laid}
+use Rattle.standard.specs.Judge.{Handed, handing, verdictFor, verdictsIn, handedIn}
+use Rattle.reader.specs.declared.Mode.the-variants.{Skipping}
+use Rattle.reader.specs.declared.Reader.{Reader}
+use Rattle.reader.specs.Step.{State, Step, soundWith, stepOf}
+
+-- ---- a read, over the bytes held
+
+pub record Read : Type 0 where
+  pub used : ℕ
+  pub next : State
+  pub said : List Handed
+  pub kept : List ℕ
+
+-- one byte, and the read of those after it where it gave nothing
+abbrev pub readOn : List Handed → Step → Read → Read
+readOn [] first later = record { used = suc (later .used); next = later .next; said = later .said; kept = later .kept }
+readOn (h ∷ hs) first later = record { used = 1; next = first .next; said = h ∷ []; kept = first .kept }
+
+unfoldable pub scanOf : State → List ℕ → Read
+scanOf s [] = record { used = 0; next = s; said = []; kept = s .held }
+scanOf s (b ∷ bs) = readOn (stepOf s b .said) (stepOf s b) (scanOf (stepOf s b .next) bs)
+
+-- ---- a reader as code has it
+
+abbrev pub stateOf : Reader → State
+stateOf r = record { mode = r .mode; held = take (r .held) (r .bytes) }
+
+-- the number held is asked, and not how many bytes the array has
+abbrev pub soundReader : Reader → Bool
+soundReader r = soundWith (r .mode) (r .held) (getD (r .bytes) 0 0)
+
+-- a reader that has seen nothing
+abbrev pub freshReader : Framing → Reader
+freshReader f = record { mode = Skipping f; held = 0; bytes = replicate 21 0 }
+
+-- the reader after a read or a byte: the frame's bytes stand at the beginning of the array, and its other bytes stay
+abbrev pub readerAfter : Reader → State → List ℕ → Reader
+readerAfter r next kept = record { mode = next .mode; held = length (next .held); bytes = laid (r .bytes) 0 kept }
+
+pub record Answer : Type 0 where
+  pub reader : Reader
+  pub used : ℕ
+  pub said : List Handed
+
+-- "Reading with an unsound state gives 12, uses no byte and hands the state back"
+abbrev pub notSound : Reader → Answer
+notSound r = record { reader = r; used = 0; said = handing 12 [] ∷ [] }
+
+abbrev pub readFrom : Reader → Read → Answer
+readFrom r read = record { reader = readerAfter r (read .next) (read .kept); used = read .used; said = read .said }
+
+-- THE ANSWER of a read, from any reader
+unfoldable pub readOf : Reader → List ℕ → Answer
+readOf r bs = cond (soundReader r) (readFrom r (scanOf (stateOf r) bs)) (notSound r)
+
+-- ---- what is promised
+
+-- that an answer's reader and verdict are those of `a`: the verdict's numbers, and its message in the reader's array
+pub record Gives (reader : Reader) (said : Said) (a : Answer) : Type 0 where
+  pub next : reader ≡ a .reader
+  pub verdict : verdictsIn said ≡ map verdictFor (a .said)
+  pub handed : handedIn said (reader .bytes) ≡ a .said
+
+-- `read` answers with the reader, the verdict and the used bytes of `readOf`
+pub record Reads (r : Reader) (bs : List ℕ) (reader : Reader) (used : ℕ) (said : Said) : Type 0 where
+  pub gives : Gives reader said (readOf r bs)
+  pub uses : used ≡ readOf r bs .used
+
+-- `step` gives what a read of the one byte gives
+abbrev pub Steps : Reader → ℕ → Reader → Said → Type 0
+Steps r b reader said = Gives reader said (readOf r (b ∷ []))

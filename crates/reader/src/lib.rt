@@ -1,0 +1,485 @@
+// The reader: a byte goes in, the next reader and at most one verdict come out. It is a value; a
+// read goes up to and including the first verdict's byte, or to the end.
+ghost use mathlib.Core.Path.{_≡_};
+ghost use mathlib.Core.Bool.{true};
+ghost use mathlib.Core.List.{[], _∷_, _++_};
+ghost use Prim.Native.Nat.{_+_, _≤_};
+ghost use Rattle.standard.specs.declared.Framing.the-variants.{Binary, Ascii};
+ghost use Rattle.standard.specs.Messages.{longest, lengthOk};
+ghost use Rattle.standard.specs.Framing.{startOf};
+ghost use Rattle.standard.specs.Judge.{handing, verdictFor};
+ghost use Rattle.reader.specs.declared.Mode.the-variants.{Skipping, Open, Escape, Digit};
+ghost use Rattle.reader.specs.Step.{beyondLength, pendingOk, soundWith, goes, takes};
+ghost use Rattle.reader.specs.Read.{soundReader, freshReader, Reads, Steps};
+ghost use Rattle.reader.specs.Decide.{stepIn, opensIn, tells, judgedOf, Always, Counted, Decides, Judges, Complete, Digits};
+
+mod digits;
+
+use digits::DIGITS;
+use standard::Framing;
+use standard::Said;
+use standard::Verdict;
+
+// "Read and written: 1 to 18".
+const LONGEST: u8 = 18;
+
+// The most recovered bytes: the length, the longest message and two sums.
+const MOST: usize = LONGEST as usize + 3;
+
+// Between frames, in a frame, after a 7Dh (binary), or with a high digit pending (ASCII).
+pub enum Mode {
+    Skipping(Framing),
+    Open(Framing),
+    Escape,
+    Digit(u8),
+}
+
+// How many recovered bytes are held, and where: the first `held` of `bytes`. After a verdict 0 the
+// message stands in `bytes` after the length byte.
+pub struct Reader {
+    pub mode: Mode,
+    pub held: usize,
+    pub bytes: [u8; MOST],
+}
+
+// What one byte gives.
+pub struct Stepped {
+    pub reader: Reader,
+    pub said: Said,
+}
+
+// What a read gives.
+pub struct Reading {
+    pub reader: Reader,
+    pub used: usize,
+    pub said: Said,
+}
+
+// No verdict, one that needs no look at the frame's bytes, or the judgement of the whole frame.
+enum Outcome {
+    Nothing,
+    Number,
+    Judgement,
+}
+
+// What a byte decides from the number of bytes held and the first of them: the mode and how many
+// are held after it, whether a byte of the frame is kept and which, and the outcome with a
+// verdict's number. What is not used is 0. The array stays with the loop, which would be many times
+// slower if every decision handed it on; for the same reason no case of an enum holds the numbers.
+struct Decision {
+    mode: Mode,
+    held: usize,
+    keep: bool,
+    byte: u8,
+    outcome: Outcome,
+    number: u8,
+}
+
+// "Start 7Eh", "Start 0Ah".
+fn start_of(framing: Framing) -> u8
+    ensures { λ r. ⌜ r ≡ startOf framing ⌝ }
+{
+    match framing {
+        Framing::Binary => 0x7E,
+        Framing::Ascii => 0x0A,
+    }
+}
+
+// The bounds of a length, for a frame and for a state.
+fn length_ok(n: u8) -> bool
+    ensures { λ r. ⌜ r ≡ lengthOk n ⌝ }
+{
+    1 <= n && n <= LONGEST
+}
+
+// ---- decisions
+
+// Nothing of the frame is recovered.
+fn goes(mode: Mode, held: usize) -> Decision
+    ensures { λ r. ⌜ Counted held r (goes mode) ⌝ }
+{
+    Decision {
+        mode,
+        held,
+        keep: false,
+        byte: 0,
+        outcome: Outcome::Nothing,
+        number: 0,
+    }
+}
+
+// A recovered byte is held.
+fn holds(framing: Framing, held: usize, byte: u8) -> Decision
+    requires { ⌜ held ≤ longest + 3 ⌝ }
+    ensures { λ r. ⌜ Counted held r (λ bytes. goes (Open framing) (bytes ++ (byte ∷ []))) ⌝ }
+{
+    Decision {
+        mode: Mode::Open(framing),
+        held: held + 1,
+        keep: true,
+        byte,
+        outcome: Outcome::Nothing,
+        number: 0,
+    }
+}
+
+// A verdict that hands out nothing: no byte is held any more, and those of its frame stay.
+fn says(mode: Mode, number: u8) -> Decision
+    ensures { λ r. ⌜ Always r (tells mode number) ⌝ }
+{
+    Decision {
+        mode,
+        held: 0,
+        keep: false,
+        byte: 0,
+        outcome: Outcome::Number,
+        number,
+    }
+}
+
+// "Binary at the last sum byte".
+fn last_sum(byte: u8) -> Decision
+    ensures { λ r. ⌜ Judges Binary r (λ bytes. bytes ++ (byte ∷ [])) ⌝ }
+{
+    Decision {
+        mode: Mode::Skipping(Framing::Binary),
+        held: 0,
+        keep: true,
+        byte,
+        outcome: Outcome::Judgement,
+        number: 0,
+    }
+}
+
+// "ASCII at the stop place", where the stop is right.
+fn stops() -> Decision
+    ensures { λ r. ⌜ Judges Ascii r (λ bytes. bytes) ⌝ }
+{
+    Decision {
+        mode: Mode::Skipping(Framing::Ascii),
+        held: 0,
+        keep: false,
+        byte: 0,
+        outcome: Outcome::Judgement,
+        number: 0,
+    }
+}
+
+// A start between frames.
+fn starts(framing: Framing) -> Decision
+    ensures { λ r. ⌜ Always r (opensIn (Skipping framing)) ⌝ }
+{
+    Decision {
+        mode: Mode::Open(framing),
+        held: 0,
+        keep: false,
+        byte: 0,
+        outcome: Outcome::Nothing,
+        number: 0,
+    }
+}
+
+// "Where 1 is given, the same byte opens the next frame."
+fn opens(mode: Mode) -> Decision
+    ensures { λ r. ⌜ Always r (opensIn mode) ⌝ }
+{
+    match mode {
+        Mode::Skipping(framing) => starts(framing),
+        Mode::Open(framing) => says(Mode::Open(framing), 1),
+        Mode::Escape => says(Mode::Open(Framing::Binary), 1),
+        Mode::Digit(_) => says(Mode::Open(Framing::Ascii), 1),
+    }
+}
+
+// A recovered byte: the length, or one after it, of which the last sum decides in binary.
+fn takes(framing: Framing, held: usize, first: u8, x: u8) -> Decision
+    requires { ⌜ held ≤ longest + 3 ⌝ }
+    ensures { λ r. ⌜ Decides held first r (λ bytes. takes framing bytes x) ⌝ }
+{
+    if held == 0 {
+        if length_ok(x) {
+            return holds(framing, held, x);
+        }
+        return says(Mode::Skipping(framing), 4);
+    }
+    match framing {
+        Framing::Binary => {
+            if held < first as usize + 2 {
+                holds(framing, held, x)
+            } else {
+                last_sum(x)
+            }
+        }
+        Framing::Ascii => holds(framing, held, x),
+    }
+}
+
+// "After a verdict everything up to the next start is skipped."
+fn skipping(framing: Framing, held: usize, b: u8) -> Decision
+    ensures { λ r. ⌜ Counted held r (stepIn (Skipping framing) b) ⌝ }
+{
+    if b == start_of(framing) {
+        starts(framing)
+    } else {
+        goes(Mode::Skipping(framing), held)
+    }
+}
+
+// A byte in a binary frame.
+fn binary(held: usize, first: u8, b: u8) -> Decision
+    requires { ⌜ held ≤ longest + 3 ⌝ }
+    ensures { λ r. ⌜ Decides held first r (stepIn (Open Binary) b) ⌝ }
+{
+    if b == 0x7E {
+        return opens(Mode::Open(Framing::Binary));
+    }
+    if b == 0x7D {
+        return goes(Mode::Escape, held);
+    }
+    takes(Framing::Binary, held, first, b)
+}
+
+// "A 7Eh on the line always starts a new frame, also right after 7Dh."
+fn escaped(held: usize, first: u8, b: u8) -> Decision
+    requires { ⌜ held ≤ longest + 3 ⌝ }
+    ensures { λ r. ⌜ Decides held first r (stepIn Escape b) ⌝ }
+{
+    if b == 0x7E {
+        return opens(Mode::Escape);
+    }
+    takes(Framing::Binary, held, first, b ^ 0x20)
+}
+
+// A byte in an ASCII frame with no digit pending: the stop, where it is due, or a high digit.
+fn character(held: usize, first: u8, b: u8, digits: &[u8]) -> Decision
+    requires { ⌜ Digits (now digits) ⌝ }
+    ensures { λ r. ⌜ Decides held first r (stepIn (Open Ascii) b) ⌝ }
+{
+    if b == 0x0A {
+        return opens(Mode::Open(Framing::Ascii));
+    }
+    if 0 < held {
+        if first as usize + 3 <= held {
+            if b == 0x0D {
+                return stops();
+            }
+            return says(Mode::Skipping(Framing::Ascii), 3);
+        }
+    }
+    let d = digits[b as usize];
+    if d < 16 {
+        goes(Mode::Digit(d), held)
+    } else {
+        says(Mode::Skipping(Framing::Ascii), 2)
+    }
+}
+
+// "Every byte as two characters, high digit first."
+fn low_digit(high: u8, held: usize, first: u8, b: u8, digits: &[u8]) -> Decision
+    requires { ⌜ (held ≤ longest + 3) × (high ≤ 15) × Digits (now digits) ⌝ }
+    ensures { λ r. ⌜ Decides held first r (stepIn (Digit high) b) ⌝ }
+{
+    if b == 0x0A {
+        return opens(Mode::Digit(high));
+    }
+    let d = digits[b as usize];
+    if d < 16 {
+        takes(Framing::Ascii, held, first, high * 16 + d)
+    } else {
+        says(Mode::Skipping(Framing::Ascii), 2)
+    }
+}
+
+// One byte, for `step` and `read` alike.
+fn decide(mode: Mode, held: usize, first: u8, b: u8, digits: &[u8]) -> Decision
+    requires { ⌜ (held ≤ longest + 3) × (pendingOk mode ≡ true) × Digits (now digits) ⌝ }
+    ensures { λ r. ⌜ Decides held first r (stepIn mode b) ⌝ }
+{
+    match mode {
+        Mode::Skipping(framing) => skipping(framing, held, b),
+        Mode::Open(framing) => match framing {
+            Framing::Binary => binary(held, first, b),
+            Framing::Ascii => character(held, first, b, digits),
+        },
+        Mode::Escape => escaped(held, first, b),
+        Mode::Digit(high) => low_digit(high, held, first, b, digits),
+    }
+}
+
+// ---- a whole frame
+
+// A verdict that carries nothing.
+fn plain(number: u8) -> Verdict
+    ensures { λ r. ⌜ r ≡ verdictFor (handing number []) ⌝ }
+{
+    Verdict {
+        number,
+        type_byte: 0,
+        length: 0,
+    }
+}
+
+// The frame that these bytes begin with. "At that byte the order is 3, 5, 6, 7, 8": 3 needs no look
+// at them, and was decided before.
+fn judge(frame: &[u8]) -> Verdict
+    requires { ⌜ Complete (now frame) ⌝ }
+    ensures { λ r. ⌜ r ≡ verdictFor (judgedOf (now (frame .entry))) ⌝ }
+{
+    let length = frame[0];
+    let end = length as usize + 1;
+    let sums = sums::sums_of(&frame[..end]);
+    if frame[end] != sums.one {
+        return plain(5);
+    }
+    if frame[end + 1] != sums.two {
+        return plain(5);
+    }
+    let number = messages::check(&frame[1..end]);
+    Verdict {
+        number,
+        type_byte: frame[1],
+        length: if number == 0 { length } else { 0 },
+    }
+}
+
+// ---- a read
+
+// How many bytes a sound state may hold beyond the length L.
+fn beyond_length(mode: Mode) -> u8
+    ensures { λ r. ⌜ r ≡ beyondLength mode ⌝ }
+{
+    match mode {
+        Mode::Skipping(framing) => beyond(framing),
+        Mode::Open(framing) => beyond(framing),
+        Mode::Escape => 2,
+        Mode::Digit(_) => 2,
+    }
+}
+
+fn beyond(framing: Framing) -> u8
+    ensures { λ r. ⌜ r ≡ beyondLength (Open framing) ⌝ }
+{
+    match framing {
+        Framing::Binary => 2,
+        Framing::Ascii => 3,
+    }
+}
+
+// "A pending digit must be at most 15."
+fn pending_ok(mode: Mode) -> bool
+    ensures { λ r. ⌜ r ≡ pendingOk mode ⌝ }
+{
+    match mode {
+        Mode::Skipping(_) => true,
+        Mode::Open(_) => true,
+        Mode::Escape => true,
+        Mode::Digit(d) => d <= 15,
+    }
+}
+
+// A state that holds `held` bytes, of which `first` is the first.
+fn sound(mode: Mode, held: usize, first: u8) -> bool
+    ensures { λ r. ⌜ r ≡ soundWith mode held first ⌝ }
+{
+    if held != 0 {
+        if !length_ok(first) {
+            return false;
+        }
+        if first as usize + (beyond_length(mode) as usize) < held {
+            return false;
+        }
+    }
+    pending_ok(mode)
+}
+
+// A constant is laid out anew wherever it is used: a read does so once, and not for each digit.
+fn digit_table() -> [u8; 256]
+    ensures { λ r. ⌜ Digits r ⌝ }
+{
+    DIGITS
+}
+
+// What a read gives, put together.
+fn answer(mode: Mode, held: usize, bytes: [u8; MOST], used: usize, said: Said) -> Reading
+    ensures { λ r. ⌜ r ≡ record { reader = record { mode = mode; held = held; bytes = bytes }; used = used; said = said } ⌝ }
+{
+    Reading {
+        reader: Reader { mode, held, bytes },
+        used,
+        said,
+    }
+}
+
+// Up to and including the first verdict's byte, or to the end. A state that is not sound is handed
+// back with 12.
+pub fn read(reader: Reader, bytes: &[u8]) -> Reading
+    ensures { λ r. ⌜ Reads reader (now (bytes .entry)) (r .reader) (r .used) (r .said) ⌝ }
+{
+    let mut mode = reader.mode;
+    let mut held = reader.held;
+    let mut frame = reader.bytes;
+    if !sound(mode, held, frame[0]) {
+        return Reading {
+            reader,
+            used: 0,
+            said: Said::Gave(plain(12)),
+        };
+    }
+    let digits = digit_table();
+    let mut i = 0;
+    while i < bytes.len() {
+        let decision = decide(mode, held, frame[0], bytes[i], &digits);
+        if decision.keep {
+            frame[held] = decision.byte;
+        }
+        i += 1;
+        mode = decision.mode;
+        held = decision.held;
+        let outcome = decision.outcome;
+        match outcome {
+            Outcome::Nothing => {}
+            Outcome::Number => {
+                return answer(mode, held, frame, i, Said::Gave(plain(decision.number)));
+            }
+            Outcome::Judgement => {
+                let verdict = judge(&frame);
+                return answer(mode, held, frame, i, Said::Gave(verdict));
+            }
+        }
+    }
+    answer(mode, held, frame, i, Said::Silent)
+}
+
+impl Reader {
+    // A reader that has seen nothing.
+    pub fn fresh(framing: Framing) -> Reader
+        ensures { λ r. ⌜ r ≡ freshReader framing ⌝ }
+    {
+        Reader {
+            mode: Mode::Skipping(framing),
+            held: 0,
+            bytes: [0u8; MOST],
+        }
+    }
+
+    // Whether document 01 calls the state sound; any other is refused with 12.
+    pub fn sound(self) -> bool
+        ensures { λ r. ⌜ r ≡ soundReader self ⌝ }
+    {
+        let mode = self.mode;
+        let held = self.held;
+        let frame = self.bytes;
+        sound(mode, held, frame[0])
+    }
+
+    // A read of one byte.
+    pub fn step(self, b: u8) -> Stepped
+        ensures { λ r. ⌜ Steps self b (r .reader) (r .said) ⌝ }
+    {
+        let one = [b];
+        let answer = read(self, &one);
+        let reader = answer.reader;
+        let said = answer.said;
+        Stepped { reader, said }
+    }
+}
