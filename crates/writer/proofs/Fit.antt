@@ -1,0 +1,38 @@
+-- Laws of "the frame does not fit", as the code tests it. Assumes nothing.
+use Prim.Native.Nat.{ℕ, _-_, _≤_, _<_}
+use native.Mathlib.Omega.{arith}
+use mathlib.Core.Path.{_≡_, refl}
+use mathlib.Core.Bool.{Bool, true, false, _||_}
+use mathlib.Core.List.{[], _∷_}
+use lib.Dec.{eqb, ltb}
+use borrow.Author.Tests.{lt-ltb, le-ltb, ltb-false}
+use Rattle.standard.specs.declared.Sums.{Sums}
+use Rattle.standard.specs.Writer.{noRoom}
+use Rattle.standard.proofs.Judge.{first-none}
+use Rattle.writer.specs.Answer.{laterRefusal}
+
+or-true : (t : Bool) → (t || true) ≡ true
+or-true true = refl
+or-true false = refl
+
+neither : (s t : Bool) → (s || t) ≡ false → (s ≡ false) × (t ≡ false)
+neither true t h = absurd (let z : _≡_ {A = ℕ} 0 1 = cc in omega arith)
+neither false t h = (refl, h)
+
+-- a place beyond the end
+pub beyond : (frame place size : ℕ) → size < place → noRoom frame place size ≡ true
+beyond frame place size h = rw (lt-ltb size place h) (or-true (ltb (size - place) frame))
+
+-- a frame longer than what is left
+pub short : (frame place size : ℕ) → size - place < frame → noRoom frame place size ≡ true
+short frame place size h = rw (lt-ltb (size - place) frame h)
+
+-- the frame fits exactly so
+pub fits : (frame place size : ℕ) → place ≤ size → frame ≤ size - place → noRoom frame place size ≡ false
+fits frame place size h k = rw (le-ltb size place h, le-ltb (size - place) frame k)
+
+pub fit : (sums : Sums) (frame place size : ℕ) → laterRefusal sums frame place size ≡ 0 → (place ≤ size) × (frame ≤ size - place)
+fit sums frame place size e =
+    let later = first-none (eqb (sums .one) 0xFF || eqb (sums .two) 0xFF) 10 ((noRoom frame place size, 9) ∷ []) (λ z. omega arith) e .1 in
+    let told = neither (ltb (size - place) frame) (ltb size place) (first-none (noRoom frame place size) 9 [] (λ z. omega arith) later .0) in
+    (ltb-false size place (told .1), ltb-false (size - place) frame (told .0))

@@ -1,0 +1,79 @@
+-- Demand 2 over the reader's own `read`: a fresh reader on a written frame, whatever follows it, gives verdict 0 and the message, and uses exactly
+-- the frame's bytes. By the used-byte rule: the frame hands out its message, and no shorter beginning of it hands out anything. Assumes nothing.
+use Prim.Native.Nat.{ℕ, _+_, _<_}
+use native.Mathlib.Omega.{arith}
+use mathlib.Core.Path.{_≡_, refl, sym, ap, ap₂, _∙_}
+use mathlib.Core.Bool.{Bool, true, false, _||_}
+use mathlib.Core.List.{List, [], _∷_, _++_, append-nil, cons≢nil}
+use lib.ListN.{length, take, drop, length-append, take-append-drop}
+use lib.Seq.{take-append-le, take-append-seam}
+use Rattle.standard.specs.declared.Framing.{Framing}
+use Rattle.standard.specs.Messages.{among, checkOf}
+use Rattle.standard.specs.Framing.{startOf, frameOf}
+use Rattle.standard.specs.Judge.{Handed, unfinished, handing, judge}
+use Rattle.standard.specs.Stream.{upToStart, partsOf, partHands, partsHand, handedOf}
+use Rattle.standard.proofs.Framings.{Bytes, among-append}
+use Rattle.standard.proofs.Judge.{up-to-through, parts-through, parts-start}
+use Rattle.reader.specs.declared.Mode.the-variants.{Skipping}
+use Rattle.reader.specs.Step.{State}
+use Rattle.reader.specs.Read.{freshReader, readOf}
+use Rattle.reader.specs.Calls.{Reached, fresh, Uses}
+use Rattle.reader.proofs.Parts.{run, after, run-append, run-parts}
+use Rattle.reader.proofs.Used.{used-rule, used-one}
+use Rattle.writer.specs.RoundTrip.{Reads}
+use Rattle.writer.proofs.RoundTrip.{FrameReads, frame-reads, write-then-read-one}
+
+neither : (a b : Bool) → (a || b) ≡ false → a ≡ false
+neither true b e = e
+neither false b e = refl
+
+-- one part, which is unfinished, hands out nothing
+alone : (f : Framing) (l : List ℕ) → among (startOf f) l ≡ false → judge f (startOf f ∷ l) ≡ unfinished → handedOf f (startOf f ∷ l) ≡ []
+alone f l a u =
+    let whole : upToStart (startOf f) l ≡ l = ap (upToStart (startOf f)) (sym (append-nil l)) ∙ up-to-through (startOf f) l [] a ∙ append-nil l in
+    let none : partsOf (startOf f) l ≡ [] = ap (partsOf (startOf f)) (sym (append-nil l)) ∙ parts-through (startOf f) l [] a in
+    ap (partsHand f) (parts-start (startOf f) l ∙ ap₂ (λ (p : List ℕ) (ps : List (List ℕ)). (startOf f ∷ p) ∷ ps) whole none)
+    ∙ rw u
+
+nil-front : (a b : List Handed) → a ++ b ≡ [] → a ≡ []
+nil-front [] b e = refl
+nil-front (h ∷ a) b e = absurd (cons≢nil e)
+
+-- a beginning of a stream that hands out nothing hands out nothing
+front-none : (f : Framing) (k : ℕ) (l : List ℕ) → handedOf f l ≡ [] → handedOf f (take k l) ≡ []
+front-none f k l e =
+    let s : State = record { mode = Skipping f; held = [] } in
+    let front = take k l in
+    nil-front (handedOf f front) (run (after s front) (drop k l))
+    (ap (λ (x : List Handed). x ++ run (after s front) (drop k l)) (sym (run-parts f [] front (tt, refl)))
+    ∙ sym (run-append s front (drop k l))
+    ∙ ap (run s) (take-append-drop k l)
+    ∙ run-parts f [] l (tt, refl)
+    ∙ e)
+
+module _ (f : Framing) (m q : List ℕ) (good : checkOf m ≡ 0) (bytes : Bytes m) where
+  none-sooner : (k : ℕ) → k < length (frameOf f m) → handedOf f (take k (frameOf f m ++ q)) ≡ []
+  none-sooner k h =
+      let w : FrameReads f m = frame-reads f m good bytes in
+      let front = startOf f ∷ w .front in
+      let size : length (frameOf f m) ≡ length front + 1 = ap length (w .is) ∙ length-append front (w .last ∷ []) in
+      let clear : among (startOf f) (w .front) ≡ false =
+      neither (among (startOf f) (w .front)) (among (startOf f) (w .last ∷ []))
+      (sym (among-append (startOf f) (w .front) (w .last ∷ [])) ∙ w .reads .alone) in
+      let begin : take k (frameOf f m ++ q) ≡ take k front =
+      take-append-le k (frameOf f m) q (omega arith) ∙ ap (take k) (w .is) ∙ take-append-le k front (w .last ∷ []) (omega arith) in
+      ap (handedOf f) begin ∙ front-none f k front (alone f (w .front) clear (w .reads .before))
+
+  uses : Uses f [] (frameOf f m ++ q) (length (frameOf f m)) (handing 0 m ∷ [])
+  uses = record {
+    within = simp length-append (omega arith);
+    verdict = ap (handedOf f) (take-append-seam (frameOf f m) q) ∙ write-then-read-one f m good bytes;
+    none-sooner = none-sooner;
+    or-all = λ e. absurd (cons≢nil e);
+  }
+
+  -- WRITTEN, THEN READ by a fresh reader: the message, and exactly the frame's bytes used
+  pub fresh-reads : (readOf (freshReader f) (frameOf f m ++ q) .used ≡ length (frameOf f m)) × (readOf (freshReader f) (frameOf f m ++ q) .said ≡ handing 0 m ∷ [])
+  fresh-reads =
+      used-one f [] (frameOf f m ++ q) (readOf (freshReader f) (frameOf f m ++ q) .used) (length (frameOf f m)) (readOf (freshReader f) (frameOf f m ++ q) .said)
+      (handing 0 m ∷ []) (used-rule fresh (frameOf f m ++ q)) uses

@@ -1,0 +1,45 @@
+-- The condition of the second round trip is needed: card 1 with its 1Dh sent as 7D 3D is read as that message at its last byte, and written
+-- again without the escape. Assumes nothing.
+use Prim.Native.Nat.{ℕ}
+use native.Mathlib.Omega.{arith}
+use mathlib.Core.Path.{_≡_, refl, ap}
+use mathlib.Core.Bool.{Bool, true, false, _&&_}
+use mathlib.Core.List.{List, [], _∷_, _++_, flatMap}
+use lib.Dec.{ltb}
+use lib.ListN.{length}
+use borrow.Author.Tests.{ltb-true}
+use Rattle.standard.specs.declared.Framing.the-variants.{Binary}
+use Rattle.standard.specs.Words.{total}
+use Rattle.standard.specs.Sums.{prefixes, sumsOf}
+use Rattle.standard.specs.Messages.{lengthFor, valuesOk}
+use Rattle.standard.specs.Framing.{startOf, coding, frameOf, unstuff}
+use Rattle.standard.specs.Judge.{wholeOf}
+use Rattle.standard.proofs.Messages.{both-true}
+use Rattle.standard.proofs.Framings.{Bytes, bytes-none, bytes-cons}
+use Rattle.writer.specs.RoundTrip.{onlyNeeded, escapesNeeded, Reads}
+
+-- 01 7D 3D 1E, and then 1F
+abbrev pub front : List ℕ
+front = 0x01 ∷ 0x7D ∷ 0x3D ∷ 0x1E ∷ []
+
+-- a computed test for bytes
+allBytes : List ℕ → Bool
+allBytes [] = true
+allBytes (b ∷ bs) = ltb b 256 && allBytes bs
+
+are-bytes : (l : List ℕ) → allBytes l ≡ true → Bytes l
+unfolding allBytes
+are-bytes [] h = bytes-none
+are-bytes (b ∷ bs) h = let both = both-true (ltb b 256) (allBytes bs) h in bytes-cons b bs (ltb-true b 256 (both .0)) (are-bytes bs (both .1))
+
+pub needless-reads : Reads Binary front 0x1F (0x1D ∷ [])
+unfolding allBytes unstuff wholeOf sumsOf prefixes total lengthFor valuesOk
+needless-reads = record { bytes = are-bytes (front ++ (0x1F ∷ [])) refl; alone = refl; before = refl; said = refl }
+
+pub needless-escape : escapesNeeded Binary (front ++ (0x1F ∷ [])) ≡ false
+unfolding onlyNeeded
+needless-escape = refl
+
+pub needless-differs : frameOf Binary (0x1D ∷ []) ≡ startOf Binary ∷ front ++ (0x1F ∷ []) → ⊥
+unfolding frameOf coding flatMap sumsOf prefixes total
+needless-differs e = let z : _≡_ {A = ℕ} 5 6 = ap length e in omega arith
