@@ -1,0 +1,26 @@
+-- `table::zone_part` meets its contract: a table that is not refused holds the part. Assumes nothing.
+use native.Mathlib.Omega.{arith}
+use mathlib.Core.Path.{sym, _∙_}
+use borrow.Author.Needs.{needs}
+use Rattle.standard.proofs.Questions.{asked-whole, answer-by}
+use Rattle.table.proofs.zone_part.Statement.{statement}
+use Rattle.table.proofs.zone_part.Tie as tie
+
+table-refusal-requires : tie.Need-table-refusal-requires
+table-refusal-requires c κs = search needs
+
+zone-at-requires : tie.Need-zone-at-requires
+zone-at-requires c κs = search needs
+
+add-part-of : tie.Need-add-part-of
+add-part-of c = search needs
+
+part-of-requires : tie.Need-part-of-requires
+part-of-requires c κs = λ z. let h = asked-whole (c .before .before .before .args .table .now) (sym (c .before .table-refusal .ensures) ∙ z) in omega arith
+
+returns : tie.Need-returns
+returns c = answer-by (c .before .before .table-refusal .ensures) (rw (c .before .zone-at .ensures) at (c .part-of .ensures))
+
+pub zone-part-spec : {M : Type 1} → statement M
+zone-part-spec =
+    tie.close (tie.spec table-refusal-requires zone-at-requires add-part-of part-of-requires returns)
