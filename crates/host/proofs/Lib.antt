@@ -1,0 +1,3 @@
+pub mod Answers
+pub mod Demand3
+pub mod Unique

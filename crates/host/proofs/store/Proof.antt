@@ -1,0 +1,60 @@
+-- `host::store` meets its contract: the message is the part of the bytes after the length byte. Assumes nothing.
+use Rattle.standard.specs.Table.{tableAfter, appliedTo}
+use borrow.Author.Tests.{eq-eqb, ne-eqb}
+use lib.ListN.{take, drop}
+use Prim.Native.Nat.{ℕ, _+_, _-_}
+use mathlib.Core.List.{List}
+use mathlib.Core.Path.{_≡_, refl, sym, ap, _∙_}
+use native.Mathlib.Omega.{arith}
+use borrow.Author.Needs.{needs}
+use Rattle.host.proofs.store.Statement.{statement}
+use Rattle.host.proofs.store.Tie as tie
+
+cast-end : tie.Need-cast-end
+cast-end c = search needs
+
+add-end : tie.Need-add-end
+add-end c = search needs
+
+sub-apply : tie.Need-sub-apply
+sub-apply c = search needs
+
+part-apply-start : tie.Need-part-apply-start
+part-apply-start c = search needs
+
+part-apply-end : tie.Need-part-apply-end
+part-apply-end c = search needs
+
+apply-requires : tie.Need-apply-requires
+apply-requires c κs = search needs
+
+same-length : tie.Need-same-length
+same-length c = search needs
+
+returns : tie.Need-returns
+unfolding tableAfter
+returns c =
+    let start = c .before .before .before .before .before .before .before .before .before .before in
+    let v = start .args .verdict in
+    let same : v .length + 1 - 1 ≡ v .length = omega arith in
+    c .before .before .apply .ensures .leaves
+    ∙ ap (λ (n : ℕ). appliedTo (start .args .table .now) (take n (drop 1 (start .args .bytes .now)))) same
+    ∙ sym (rw (eq-eqb _ _ (c .before .before .before .before .before .before .if1 .taken)))
+
+returns-2 : tie.Need-returns-2
+unfolding tableAfter
+returns-2 c = rw (ne-eqb _ _ (c .if1 .left))
+
+pub store-spec : {M : Type 1} → statement M
+store-spec =
+    tie.close
+    (tie.spec
+    cast-end
+    add-end
+    sub-apply
+    part-apply-start
+    part-apply-end
+    apply-requires
+    same-length
+    returns
+    returns-2)
