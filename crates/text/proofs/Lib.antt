@@ -1,0 +1,5 @@
+pub mod Puts
+pub mod Groups
+pub mod Turns
+pub mod Reports
+pub mod Unique

@@ -1,0 +1,59 @@
+-- The definition's own test. Assumes nothing.
+use native.Mathlib.Omega.{arith}
+use mathlib.Core.Path.{ap}
+use lib.ListN.{length}
+use Rattle.standard.proofs.Put.{put-then}
+use Rattle.text.proofs.Groups.{not-heard, heard-some}
+use borrow.Author.Needs.{needs}
+use Rattle.text.proofs.put_faulted.Statement.{statement}
+use Rattle.text.proofs.put_faulted.Tie as tie
+
+slice-aggregate-put-all : tie.Need-slice-aggregate-put-all
+slice-aggregate-put-all c = search needs
+
+put-all-requires : tie.Need-put-all-requires
+put-all-requires c κs =
+    let test = c .before .before in
+    let start = test .before .before in
+    omega (arith, ap length (not-heard (start .args .heard) (start .args .faulted) (test .if1 .taken)), start .pre)
+
+same-length : tie.Need-same-length
+same-length c = search needs
+
+returns : tie.Need-returns
+returns c =
+    let o = c .before .before in
+    let test = o .before .before .before in
+    rw (not-heard _ _ (test .if1 .taken)) (o .put-all .ensures)
+
+put-requires : tie.Need-put-requires
+put-requires c κs = search needs
+
+put-decimal-requires : tie.Need-put-decimal-requires
+put-decimal-requires c κs =
+    let o = c .before .before .before in
+    let test = o .before .before in
+    let start = test .before .before in
+    omega (arith, ap length (heard-some (start .args .heard) (start .args .faulted) (test .if1 .left)), start .pre, o .put .ensures .end)
+
+same-length-2 : tie.Need-same-length-2
+same-length-2 c = search needs
+
+returns-2 : tie.Need-returns-2
+returns-2 c =
+    let second = c .before .before in
+    let first = second .before .before .before .before in
+    rw (heard-some _ _ (first .before .before .if1 .left)) (put-then (first .put .ensures) (second .put-decimal .ensures))
+
+pub put-faulted-spec : {M : Type 1} → statement M
+put-faulted-spec =
+    tie.close
+    (tie.spec
+    slice-aggregate-put-all
+    put-all-requires
+    same-length
+    returns
+    put-requires
+    put-decimal-requires
+    same-length-2
+    returns-2)

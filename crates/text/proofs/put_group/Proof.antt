@@ -1,0 +1,68 @@
+-- The fields of the line, one after another. Assumes nothing.
+use native.Mathlib.Omega.{arith}
+use Rattle.standard.proofs.Put.{put-then}
+use Rattle.text.proofs.Groups.{counts-length}
+use borrow.Author.Needs.{needs}
+use Rattle.text.proofs.put_group.Statement.{statement}
+use Rattle.text.proofs.put_group.Tie as tie
+
+put-decimal-requires : tie.Need-put-decimal-requires
+put-decimal-requires c κs =
+    let start = c .before .before in
+    omega (arith, counts-length (start .args .group) (start .args .heard) (start .args .faulted))
+
+put-requires : tie.Need-put-requires
+put-requires c κs =
+    let first = c .before .before .before in
+    let start = first .before .before .before in
+    omega (arith, counts-length (start .args .group) (start .args .heard) (start .args .faulted), start .pre, first .put-decimal .ensures .end)
+
+put-decimal-requires-2 : tie.Need-put-decimal-requires-2
+put-decimal-requires-2 c κs =
+    let second = c .before .before .before in
+    let first = second .before .before .before .before in
+    let start = first .before .before .before in
+    omega (arith, counts-length (start .args .group) (start .args .heard) (start .args .faulted), start .pre, first .put-decimal .ensures .end, second .put .ensures .end)
+
+put-faulted-requires : tie.Need-put-faulted-requires
+put-faulted-requires c κs =
+    let third = c .before .before .before in
+    let second = third .before .before .before .before in
+    let first = second .before .before .before .before in
+    let start = first .before .before .before in
+    omega (arith, counts-length (start .args .group) (start .args .heard) (start .args .faulted), start .pre, first .put-decimal .ensures .end, second .put .ensures .end, third .put-decimal2 .ensures .end)
+
+put-requires-2 : tie.Need-put-requires-2
+put-requires-2 c κs =
+    let fourth = c .before .before .before in
+    let third = fourth .before .before .before .before in
+    let second = third .before .before .before .before in
+    let first = second .before .before .before .before in
+    let start = first .before .before .before in
+    omega (arith, counts-length (start .args .group) (start .args .heard) (start .args .faulted), start .pre, first .put-decimal .ensures .end, second .put .ensures .end, third .put-decimal2 .ensures .end, fourth .put-faulted .ensures .end)
+
+same-length : tie.Need-same-length
+same-length c = search needs
+
+returns : tie.Need-returns
+returns c =
+    let fifth = c .before .before in
+    let fourth = fifth .before .before .before .before in
+    let third = fourth .before .before .before .before in
+    let second = third .before .before .before .before in
+    let first = second .before .before .before .before in
+    put-then
+    (put-then (put-then (first .put-decimal .ensures) (put-then (second .put .ensures) (third .put-decimal2 .ensures))) (fourth .put-faulted .ensures))
+    (fifth .put2 .ensures)
+
+pub put-group-spec : {M : Type 1} → statement M
+put-group-spec =
+    tie.close
+    (tie.spec
+    put-decimal-requires
+    put-requires
+    put-decimal-requires-2
+    put-faulted-requires
+    put-requires-2
+    same-length
+    returns)

@@ -1,0 +1,128 @@
+-- The loop's invariant: the lines of the first `index` groups are put. Each group's counts are those of the overview, which are the table's. Assumes nothing.
+use Prim.Native.Nat.{ℕ, suc, _+_, _-_, _≤_}
+use native.Mathlib.Omega.{arith}
+use mathlib.Core.Path.{_≡_, refl, ap}
+use mathlib.Core.List.{List, flatMap}
+use lib.Ieee.{nan}
+use lib.ListN.{length, getD}
+use Rattle.standard.specs.declared.Group.{Group}
+use Rattle.standard.specs.declared.Share.the-variants.{Share as IsShare}
+use Rattle.standard.specs.Words.{upTo, Put}
+use Rattle.standard.specs.Overview.{Counted, counted, heardOf, faultedOf, groupValues}
+use Rattle.standard.specs.Report.{groupLine}
+use Rattle.standard.proofs.Put.{put-then, put-length}
+use Rattle.standard.proofs.Report.{groups-length}
+use Rattle.standard.proofs.Seen.{Bounded, group-bounded, group-told}
+use Rattle.text.specs.Lines.{countsLine}
+use Rattle.text.proofs.Groups.{firstLines, lines-more, lines-room, line-seen}
+use Rattle.text.proofs.put_groups.Statement.{statement}
+use Rattle.text.proofs.put_groups.Tie as tie
+
+abbrev Inv-loop : tie.InvT-loop
+Inv-loop out₀ table groups at₀ index₀ out at index = (index ≤ 16) × Put out₀ 0 (firstLines (groupLine table) index) out at
+
+abbrev μ-loop : tie.MeasureT-loop
+μ-loop out₀ table groups at₀ index₀ out at index = 16 - index
+
+-- the table and the group at hand; `noGroup` is what an array's element is beyond its end
+abbrev noGroup : Group
+noGroup = record { heard = 0; faulted = 0; share = IsShare nan }
+
+abbrev tableIn : tie.In-loop Inv-loop μ-loop → List ℕ
+tableIn c = c .before .before .before .before .before .before .args .table .now
+
+abbrev groupIn : tie.In-loop Inv-loop μ-loop → Group
+groupIn c = getD (c .before .before .before .view .result .groups) (c .before .loop .index) noGroup
+
+-- its counts are the table's
+seen : (c : tie.In-loop Inv-loop μ-loop)
+    → groupValues (groupIn c) ≡ counted (heardOf (tableIn c) (suc (c .before .loop .index))) (faultedOf (tableIn c) (suc (c .before .loop .index)))
+seen c =
+    let view = c .before .before .before .view in
+    group-told (tableIn c) (view .result) (view .ensures) (c .before .before .before .before .before .before .pre .0) (c .before .loop .index)
+    (c .loop-test .taken) noGroup
+
+small : (c : tie.In-loop Inv-loop μ-loop) → Bounded (groupIn c .heard) (groupIn c .faulted) 16
+small c =
+    let b = group-bounded (tableIn c) (suc (c .before .loop .index)) in
+    let h = ap (λ (x : Counted). x .heard) (seen c) in
+    let f = ap (λ (x : Counted). x .faulted) (seen c) in
+    record { among = omega arith; few = omega arith }
+
+line : (c : tie.In-loop Inv-loop μ-loop)
+    → countsLine (c .before .loop .index + 1) (groupIn c .heard) (groupIn c .faulted) ≡ groupLine (tableIn c) (suc (c .before .loop .index))
+line c = line-seen (tableIn c) (c .before .loop .index) (groupIn c) (seen c)
+
+view-requires : tie.Need-view-requires Inv-loop μ-loop
+view-requires c κs = tt
+
+loop-holds : tie.Need-loop-holds Inv-loop μ-loop
+unfolding flatMap upTo
+loop-holds c = (omega arith, record { bytes = refl; end = refl })
+
+cast-group : tie.Need-cast-group Inv-loop μ-loop
+cast-group c = omega arith
+
+mul-group : tie.Need-mul-group Inv-loop μ-loop
+mul-group c = omega arith
+
+array-copy-out-group : tie.Need-array-copy-out-group Inv-loop μ-loop
+array-copy-out-group c = omega arith
+
+add-put-group : tie.Need-add-put-group Inv-loop μ-loop
+add-put-group c = omega arith
+
+cast-put-group : tie.Need-cast-put-group Inv-loop μ-loop
+cast-put-group c = let b = small (c .before .before .before) in omega arith
+
+cast-put-group-2 : tie.Need-cast-put-group-2 Inv-loop μ-loop
+cast-put-group-2 c = let b = small (c .before .before .before .before) in omega arith
+
+put-group-requires : tie.Need-put-group-requires Inv-loop μ-loop
+put-group-requires c κs =
+    let o = c .before .before .before .before in
+    let done = o .before .loop .inv .1 in
+    let room = lines-room (groupLine (tableIn o)) (o .before .loop .index) (o .loop-test .taken) in
+    omega
+    (arith, done .end, put-length done, ap length (line o), room, groups-length (tableIn o), o .before .before .before .before .before .before .pre .1)
+
+add-index : tie.Need-add-index Inv-loop μ-loop
+add-index c = omega arith
+
+loop-less : tie.Need-loop-less Inv-loop μ-loop
+loop-less c = omega arith
+
+loop-again : tie.Need-loop-again Inv-loop μ-loop
+loop-again c =
+    let put = c .before .before in
+    let o = put .before .before .before .before .before in
+    (omega arith, rw (lines-more (groupLine (tableIn o)) (o .before .loop .index)) (put-then (o .before .loop .inv .1) (rw (line o) at (put .put-group .ensures))))
+
+same-length : tie.Need-same-length Inv-loop μ-loop
+same-length c = put-length (c .before .loop .inv .1)
+
+returns : tie.Need-returns Inv-loop μ-loop
+returns c =
+    let last : c .before .loop .index ≡ 16 = omega arith in
+    rw last at (c .before .loop .inv .1)
+
+pub put-groups-spec : {M : Type 1} → statement M
+put-groups-spec =
+    tie.close
+    (tie.spec
+    Inv-loop
+    μ-loop
+    view-requires
+    loop-holds
+    cast-group
+    mul-group
+    array-copy-out-group
+    add-put-group
+    cast-put-group
+    cast-put-group-2
+    put-group-requires
+    add-index
+    loop-less
+    loop-again
+    same-length
+    returns)
