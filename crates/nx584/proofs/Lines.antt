@@ -1,0 +1,152 @@
+-- What is said of a read, in numbers. Assumes nothing.
+use Prim.Native.Nat.{ℕ, _+_, _-_, _≤_, _<_}
+use native.Mathlib.Numerals.{add-one}
+use native.Mathlib.Omega.{arith}
+use mathlib.Core.Path.{_≡_, refl, sym, ap, ap₂, _∙_}
+use mathlib.Core.Bool.{Bool, true, false, cond, _&&_}
+use mathlib.Core.List.{List, [], _∷_, _++_, map, head-eq-of-cons-eq, cons≢nil}
+use lib.Dec.{eqb, leb}
+use lib.ListN.{length, getD, take, drop, set, length-drop, length-map, List·getD-map}
+use lib.Seq.{length-take-le, take-suc, take-suc-set}
+use borrow.Author.Tests.{eq-eqb, ne-eqb, le-leb, lt-leb}
+use Rattle.standard.specs.declared.Said.{Said}
+use Rattle.standard.specs.declared.Said.the-variants.{Silent, Gave}
+use Rattle.standard.specs.declared.Verdict.{Verdict}
+use Rattle.standard.specs.Messages.{longest}
+use Rattle.standard.specs.Judge.{Handed, handing, carriesType, verdictFor, verdictsIn, handedIn}
+use Rattle.standard.specs.declared.Reply.{Reply}
+use Rattle.standard.specs.Replies.{replyNumber, replyOf}
+use Rattle.standard.specs.Table.{tableBytes, tableAfter}
+use Rattle.standard.proofs.Messages.{both-true}
+use Rattle.reader.specs.declared.Reader.{Reader}
+use Rattle.reader.specs.Read.{Answer, soundReader, readOf, Gives}
+use Rattle.reader.proofs.Soundness.{sound-held}
+use Rattle.reader.proofs.Arrays.{sound-read}
+use Rattle.reader.proofs.Short.{Short, read-short}
+use Rattle.host.specs.Hear.{replyTo, heardBy, Hears}
+use Rattle.host.proofs.Answers.{heard-read}
+use Rattle.nx584.specs.declared.LineReader.{LineReader}
+use Rattle.nx584.specs.declared.LineHearing.{LineHearing}
+use Rattle.nx584.specs.Boundary.{readerFor, soundLine, typeSaid, messageSaid, lengthSaid, padded, lineReader, lineReading, withReply, lineHearing, LineAnswer, lineTook, lineRefused, lineRead, lineHeard, LineHears}
+
+same-both : {A : Type 0} (t : Bool) (x : A) → cond t x x ≡ x
+same-both true x = refl
+same-both false x = refl
+
+-- a refusal carries no type byte and no message
+pub no-type : (number : ℕ) → typeSaid (handing number [] ∷ []) ≡ 0
+no-type number = same-both {A = ℕ} (carriesType number) 0
+
+pub no-message : (number : ℕ) → messageSaid (handing number [] ∷ []) ≡ []
+no-message number = same-both {A = List ℕ} (eqb number 0) []
+
+-- a message that is handed out is no longer than the longest
+pub few-said : (said : Said) (hs : List Handed) → verdictsIn said ≡ map verdictFor hs → Short hs → lengthSaid said ≤ longest
+few-said Silent hs e k = omega arith
+few-said (Gave v) [] e k = absurd (cons≢nil e)
+few-said (Gave v) (h ∷ hs) e k =
+    let same : v .length ≡ length (h .message) = ap (λ (w : Verdict). w .length) (head-eq-of-cons-eq e) in
+    omega arith
+
+-- soundness as the code asks it
+pub no-mode : (c : LineReader) → 3 < c .mode → soundLine c ≡ false
+unfolding soundLine
+no-mode c h = rw (lt-leb (c .mode) 3 h)
+
+pub no-digit : (c : LineReader) → c .mode ≡ 3 → 15 < c .digit → soundLine c ≡ false
+unfolding soundLine
+no-digit c e h = rw (e, lt-leb (c .digit) 15 h)
+
+pub a-digit : (c : LineReader) → c .mode ≡ 3 → c .digit ≤ 15 → soundLine c ≡ soundReader (readerFor c)
+unfolding soundLine
+a-digit c e h = rw (le-leb (c .mode) 3 (omega arith), eq-eqb (c .mode) 3 e, le-leb (c .digit) 15 h)
+
+pub another-mode : (c : LineReader) → c .mode ≤ 3 → (c .mode ≡ 3 → ⊥) → soundLine c ≡ soundReader (readerFor c)
+unfolding soundLine
+another-mode c h e = rw (le-leb (c .mode) 3 h, ne-eqb (c .mode) 3 e)
+
+-- a verdict and its message, which stands in the reader's bytes
+pub gave-line : (reader : LineReader) (used : ℕ) (v : Verdict) (bytes message : List ℕ) → v .length + 1 ≤ length bytes
+    → message ≡ padded (take (v .length + 1 - 1) (drop 1 bytes))
+    → record { reader = reader; used = used; verdict = v .number; «type_byte» = v .«type_byte»; length = v .length; message = message }
+    ≡ lineReading (record { reader = reader; used = used; said = handedIn (Gave v) bytes })
+gave-line reader used v bytes message h e =
+    let same : v .length + 1 - 1 ≡ v .length = omega arith in
+    let size : length (take (v .length) (drop 1 bytes)) ≡ v .length = length-take-le (v .length) (drop 1 bytes) (omega (arith, length-drop 1 bytes)) in
+    rw (e, same, size)
+
+-- ---- a read by numbers
+
+pub line-sound : (c : LineReader) → soundLine c ≡ true → soundReader (readerFor c) ≡ true
+unfolding soundLine
+line-sound c h =
+    let first = both-true (leb (c .mode) 3) (cond (eqb (c .mode) 3) (leb (c .digit) 15) true && soundReader (readerFor c)) h in
+    both-true (cond (eqb (c .mode) 3) (leb (c .digit) 15) true) (soundReader (readerFor c)) (first .1) .1
+
+pub read-took : (c : LineReader) (bs : List ℕ) → soundLine c ≡ true → lineRead c bs ≡ lineTook (readOf (readerFor c) bs)
+unfolding lineRead
+read-took c bs h = rw h
+
+pub read-refused : (c : LineReader) (bs : List ℕ) → soundLine c ≡ false → lineRead c bs ≡ lineRefused c 12
+unfolding lineRead
+read-refused c bs h = rw h
+
+pub heard-line : (c : LineReader) (t bs : List ℕ) → length t ≡ tableBytes → lineHeard c t bs ≡ lineRead c bs
+unfolding lineHeard
+heard-line c t bs h = rw (eq-eqb (length t) tableBytes h)
+
+pub heard-refused : (c : LineReader) (t bs : List ℕ) → (length t ≡ tableBytes → ⊥) → lineHeard c t bs ≡ lineRefused c 11
+unfolding lineHeard
+heard-refused c t bs h = rw (ne-eqb (length t) tableBytes h)
+
+-- what a sound reader answers fits the numbers that C gets
+pub took-fits : (r : Reader) (bs : List ℕ) (reader : Reader) (said : Said) → soundReader r ≡ true → Gives reader said (readOf r bs)
+    → (reader .held ≤ 65535) × (lengthSaid said ≤ 18)
+took-fits r bs reader said h g =
+    let held : reader .held ≡ readOf r bs .reader .held = ap (λ (x : Reader). x .held) (g .next) in
+    let few : readOf r bs .reader .held ≤ longest + 3 = sound-held (readOf r bs .reader) (sound-read r bs h) in
+    (omega arith, few-said said (readOf r bs .said) (g .verdict) (read-short r bs h))
+
+-- an answer of code, in numbers
+pub took-line : (a : Answer) (reader : Reader) (used : ℕ) (said : Said) → Gives reader said a → used ≡ a .used
+    → record { reader = lineReader reader; used = used; said = handedIn said (reader .bytes) } ≡ lineTook a
+took-line a reader used said g u = rw (g .handed, u, g .next)
+
+-- ---- what `nx584_hear` answers
+
+pub hear-refused : (c : LineReader) (t bs : List ℕ) (number : ℕ) → lineHeard c t bs ≡ lineRefused c number → replyOf number 0 ≡ 0 → (number ≡ 0 → ⊥)
+    → LineHears c t bs (withReply (lineReading (lineRefused c number)) 0) t
+unfolding tableAfter
+hear-refused c t bs number e r z =
+    record {
+      says = rw (e, no-type number, r);
+      leaves = rw (e, ne-eqb number 0 z);
+    }
+
+-- the turn of a loop that fills an array
+pub map-turn : {A B : Type 0} (f : A → B) (gs : List A) (out : List B) (i : ℕ) (d : A) (x : B) → i < length gs → i < length out
+    → take i out ≡ take i (map f gs) → x ≡ f (getD gs i d) → take (i + 1) (set out i x) ≡ take (i + 1) (map f gs)
+map-turn f gs out i d x h k e v =
+    let n : i < length (map f gs) = simp length-map h in
+    ap (λ (j : ℕ). take j (set out i x)) (add-one i) ∙ take-suc-set out i x k
+    ∙ ap (λ l. l ++ (x ∷ [])) e
+    ∙ ap (λ y. take i (map f gs) ++ (y ∷ [])) (v ∙ sym (List·getD-map f gs i d))
+    ∙ sym (take-suc (map f gs) i (f d) n)
+    ∙ ap (λ (j : ℕ). take j (map f gs)) (sym (add-one i))
+
+pub hear-took : (c : LineReader) (t bs : List ℕ) (reader : Reader) (used : ℕ) (said : Said) (reply : Reply) (after : List ℕ) (answer : LineHearing)
+    → length t ≡ tableBytes → soundLine c ≡ true → Hears (readerFor c) t bs reader used said reply after
+    → answer ≡ withReply (lineReading (record { reader = lineReader reader; used = used; said = handedIn said (reader .bytes) })) (replyNumber reply)
+    → LineHears c t bs answer after
+hear-took c t bs reader used said reply after answer w h p e =
+    let a = readOf (readerFor c) bs in
+    let same : heardBy (readerFor c) t bs ≡ a = heard-read (readerFor c) t bs w in
+    let line : lineHeard c t bs ≡ lineTook a = heard-line c t bs w ∙ read-took c bs h in
+    let g : Gives reader said a = rw same at (p .gives) in
+    let u : used ≡ a .used = rw same at (p .uses) in
+    let r : replyNumber reply ≡ replyTo (a .said) = rw same at (p .replies) in
+    let l : after ≡ tableAfter t (a .said) = rw same at (p .leaves) in
+    record {
+      says = e ∙ ap₂ withReply (ap lineReading (took-line a reader used said g u)) r ∙ sym (ap lineHearing line);
+      leaves = l ∙ sym (ap (λ (x : LineAnswer). tableAfter t (x .said)) line);
+    }

@@ -1,0 +1,29 @@
+use Rattle.reader.specs.Read.{soundReader}
+use mathlib.Core.Logic.{⊎-elim}
+use mathlib.Core.Path.{_≡_, sym, ap, _∙_}
+use Rattle.nx584.proofs.Lines.{no-mode, no-digit, a-digit, another-mode}
+use borrow.Author.Needs.{needs}
+use Rattle.nx584.proofs.sound_line.Statement.{statement}
+use Rattle.nx584.proofs.sound_line.Tie as tie
+
+returns : tie.Need-returns
+returns c = sym (no-mode (c .before .before .args .c) (c .if1 .taken))
+
+returns-2 : tie.Need-returns-2
+returns-2 c = sym (no-digit (c .before .before .before .before .before .before .args .c) (c .before .before .if2 .taken) (c .if3 .taken))
+
+reader-for-requires : tie.Need-reader-for-requires
+reader-for-requires c κs = search needs
+
+sound-requires : tie.Need-sound-requires
+sound-requires c κs = search needs
+
+returns-3 : tie.Need-returns-3
+returns-3 c =
+    let a = c .before .before .before .before .before .before .args .c in
+    c .sound .ensures ∙ ap soundReader (c .before .reader-for .ensures)
+    ∙ sym (⊎-elim (λ w. a-digit a (w .0 .taken) (w .2 .left)) (λ w. another-mode a (c .before .before .before .before .if1 .left) (w .left)) (c .before .before .if2 .came))
+
+pub sound-line-spec : {M : Type 1} → statement M
+sound-line-spec =
+    tie.close (tie.spec returns returns-2 reader-for-requires sound-requires returns-3)

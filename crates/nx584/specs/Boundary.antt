@@ -1,0 +1,179 @@
+-- What C hands in and gets back, in numbers: include/nx584.h. No case of an enum crosses, so each is a number here. Assumes nothing.
+use Prim.Native.Nat.{ℕ}
+use mathlib.Core.Path.{_≡_}
+use mathlib.Core.Bool.{Bool, true, cond, _&&_}
+use mathlib.Core.Option.{Option·getD}
+use mathlib.Core.List.{List, [], _∷_, map}
+use lib.Dec.{eqb, leb}
+use lib.ListN.{length, replicate}
+use lib.Ieee.{nan}
+use Rattle.standard.specs.declared.Framing.{Framing}
+use Rattle.standard.specs.declared.Framing.the-variants.{Binary, Ascii}
+use Rattle.standard.specs.Words.{laid}
+use Rattle.standard.specs.Messages.{longest}
+use Rattle.standard.specs.Judge.{Handed, handing}
+use Rattle.standard.specs.declared.Said.{Said}
+use Rattle.standard.specs.declared.Said.the-variants.{Silent, Gave}
+use Rattle.standard.specs.declared.Written.{Written}
+use Rattle.standard.specs.Writer.{writtenOf, afterWrite}
+use Rattle.standard.specs.Table.{tableBytes, tableAfter}
+use Rattle.standard.specs.Overview.{Counted, Seen}
+use Rattle.reader.specs.declared.Mode.{Mode}
+use Rattle.reader.specs.declared.Mode.the-variants.{Skipping, Open, Escape, Digit}
+use Rattle.reader.specs.declared.Reader.{Reader}
+use Rattle.reader.specs.Step.{framingOf}
+use Rattle.reader.specs.Read.{Answer, soundReader, readOf}
+use Rattle.host.specs.Hear.{replyTo}
+use Rattle.nx584.specs.declared.LineReader.{LineReader}
+use Rattle.nx584.specs.declared.LineReading.{LineReading}
+use Rattle.nx584.specs.declared.LineHearing.{LineHearing}
+use Rattle.nx584.specs.declared.LineWritten.{LineWritten}
+use Rattle.nx584.specs.declared.LineGroup.{LineGroup}
+use Rattle.nx584.specs.declared.LineOverview.{LineOverview}
+
+-- ---- a reader in numbers
+
+-- "framing 0 is binary, any other ASCII"
+abbrev pub framingFor : ℕ → Framing
+framingFor n = cond (eqb n 0) Binary Ascii
+
+abbrev pub framingNumber : Framing → ℕ
+framingNumber Binary = 0
+framingNumber Ascii = 1
+
+-- 0 skipping, 1 in a frame, 2 after a 7Dh, 3 a digit pending
+abbrev pub modeNumber : Mode → ℕ
+modeNumber (Skipping f) = 0
+modeNumber (Open f) = 1
+modeNumber Escape = 2
+modeNumber (Digit d) = 3
+
+abbrev pub digitNumber : Mode → ℕ
+digitNumber (Skipping f) = 0
+digitNumber (Open f) = 0
+digitNumber Escape = 0
+digitNumber (Digit d) = d
+
+-- "Mode 2 in ASCII and mode 3 in binary read as mode 1"
+abbrev pub pendingFor : Framing → ℕ → ℕ → Mode
+pendingFor Binary mode digit = cond (eqb mode 2) Escape (Open Binary)
+pendingFor Ascii mode digit = cond (eqb mode 3) (Digit digit) (Open Ascii)
+
+abbrev pub modeFor : Framing → ℕ → ℕ → Mode
+modeFor f mode digit = cond (eqb mode 0) (Skipping f) (pendingFor f mode digit)
+
+abbrev pub readerFor : LineReader → Reader
+readerFor c = record { mode = modeFor (framingFor (c .framing)) (c .mode) (c .digit); held = c .held; bytes = c .bytes }
+
+abbrev pub lineReader : Reader → LineReader
+lineReader r = record {
+  framing = framingNumber (framingOf (r .mode));
+  mode = modeNumber (r .mode);
+  digit = digitNumber (r .mode);
+  held = r .held;
+  bytes = r .bytes;
+}
+
+-- "another mode is unsound", "a mode 3 digit at most 15, in both", and document 01's soundness
+unfoldable pub soundLine : LineReader → Bool
+soundLine c = leb (c .mode) 3 && (cond (eqb (c .mode) 3) (leb (c .digit) 15) true && soundReader (readerFor c))
+
+-- ---- what was said, in numbers
+
+-- the verdict's number, and 255 for none
+abbrev pub numberSaid : List Handed → ℕ
+numberSaid [] = 255
+numberSaid (h ∷ hs) = h .verdict
+
+abbrev pub typeSaid : List Handed → ℕ
+typeSaid [] = 0
+typeSaid (h ∷ hs) = h .typeByte
+
+abbrev pub messageSaid : List Handed → List ℕ
+messageSaid [] = []
+messageSaid (h ∷ hs) = h .message
+
+-- the length of the message that a verdict of code hands out
+abbrev pub lengthSaid : Said → ℕ
+lengthSaid Silent = 0
+lengthSaid (Gave v) = v .length
+
+-- a message in its array: zero beyond its length
+abbrev pub padded : List ℕ → List ℕ
+padded m = laid (replicate longest 0) 0 m
+
+-- ---- what is promised
+
+pub record LineAnswer : Type 0 where
+  pub reader : LineReader
+  pub used : ℕ
+  pub said : List Handed
+
+-- "On 11 and 12 every field of the reader comes back as handed in", and no byte is used
+abbrev pub lineRefused : LineReader → ℕ → LineAnswer
+lineRefused c number = record { reader = c; used = 0; said = handing number [] ∷ [] }
+
+abbrev pub lineTook : Answer → LineAnswer
+lineTook a = record { reader = lineReader (a .reader); used = a .used; said = a .said }
+
+-- a read
+unfoldable pub lineRead : LineReader → List ℕ → LineAnswer
+lineRead c bs = cond (soundLine c) (lineTook (readOf (readerFor c) bs)) (lineRefused c 12)
+
+-- a read with a table: 11, then 12
+unfoldable pub lineHeard : LineReader → List ℕ → List ℕ → LineAnswer
+lineHeard c t bs = cond (eqb (length t) tableBytes) (lineRead c bs) (lineRefused c 11)
+
+-- an answer of `nx584_read` and `nx584_step`
+abbrev pub lineReading : LineAnswer → LineReading
+lineReading a = record {
+  reader = a .reader;
+  used = a .used;
+  verdict = numberSaid (a .said);
+  «type_byte» = typeSaid (a .said);
+  length = length (messageSaid (a .said));
+  message = padded (messageSaid (a .said));
+}
+
+-- a reading, with the reply to its verdict
+abbrev pub withReply : LineReading → ℕ → LineHearing
+withReply l reply = record {
+  reader = l .reader;
+  used = l .used;
+  verdict = l .verdict;
+  «type_byte» = l .«type_byte»;
+  reply = reply;
+  length = l .length;
+  message = l .message;
+}
+
+-- an answer of `nx584_hear`
+abbrev pub lineHearing : LineAnswer → LineHearing
+lineHearing a = withReply (lineReading a) (replyTo (a .said))
+
+-- what `nx584_hear` promises: its answer, and every byte of the table
+pub record LineHears (c : LineReader) (t bs : List ℕ) (answer : LineHearing) (after : List ℕ) : Type 0 where
+  pub says : answer ≡ lineHearing (lineHeard c t bs)
+  pub leaves : after ≡ tableAfter t (lineHeard c t bs .said)
+
+-- the writer's answer
+abbrev pub lineWritten : Written → LineWritten
+lineWritten w = record { number = w .number; length = w .length }
+
+-- what `nx584_write` promises: its answer, and every byte of the buffer
+pub record LineWrote (m : List ℕ) (framing : ℕ) (out : List ℕ) (place : ℕ) (answer : LineWritten) (after : List ℕ) : Type 0 where
+  pub says : answer ≡ lineWritten (writtenOf m (framingFor framing) out place)
+  pub leaves : after ≡ afterWrite m (framingFor framing) out place
+
+-- "known is 1 exactly if heard > 0. Where it is 0, share is a NaN"
+abbrev pub lineGroup : Counted → LineGroup
+lineGroup g = record {
+  heard = g .heard;
+  faulted = g .faulted;
+  known = cond (eqb (g .heard) 0) 0 1;
+  share = Option·getD (g .share) nan;
+}
+
+-- an answer of `nx584_view`
+abbrev pub lineOverview : Seen → LineOverview
+lineOverview s = record { number = s .number; groups = map lineGroup (s .groups); site = lineGroup (s .site) }

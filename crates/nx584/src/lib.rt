@@ -1,0 +1,410 @@
+// What C calls: include/nx584.h. Numbers, byte slices and structs of numbers cross, no enum.
+use reader::Mode;
+use reader::Reader;
+use standard::Framing;
+use standard::Group;
+use standard::Reply;
+use standard::Said;
+use standard::Share;
+ghost use mathlib.Core.Path.{_≡_};
+ghost use mathlib.Core.Option.{Option·getD};
+ghost use mathlib.Core.List.{List, [], _∷_, map};
+ghost use Prim.Native.Nat.{ℕ, _≤_};
+ghost use lib.Ieee.{nan};
+ghost use lib.ListN.{length, take};
+ghost use Rattle.standard.specs.Judge.{handedIn};
+ghost use Rattle.standard.specs.Replies.{replyNumber, replyOf};
+ghost use Rattle.standard.specs.Table.{Applied};
+ghost use Rattle.standard.specs.Overview.{seenOf, shareNumber, groupValues};
+ghost use Rattle.reader.specs.Read.{freshReader};
+ghost use Rattle.nx584.specs.Boundary.{framingFor, framingNumber, pendingFor, readerFor, lineReader, soundLine, lengthSaid, padded, lineRefused, lineReading, withReply, lineRead, LineHears, LineWrote, lineGroup, lineOverview};
+
+// A reader: framing 0 is binary, any other ASCII; mode 0 skipping, 1 in a frame, 2 after a 7Dh,
+// 3 a digit pending.
+#[repr(C)]
+pub struct LineReader {
+    pub framing: u8,
+    pub mode: u8,
+    pub digit: u8,
+    pub held: u16,
+    pub bytes: [u8; 21],
+}
+
+// A read: the verdict or 255, the type byte or 0, the message and zeros.
+#[repr(C)]
+pub struct LineReading {
+    pub reader: LineReader,
+    pub used: usize,
+    pub verdict: u8,
+    pub type_byte: u8,
+    pub length: u8,
+    pub message: [u8; 18],
+}
+
+// The writer's answer.
+#[repr(C)]
+pub struct LineWritten {
+    pub number: u8,
+    pub length: usize,
+}
+
+// The counts of a group or of the site; where known is 0 the share is a NaN.
+#[repr(C)]
+pub struct LineGroup {
+    pub heard: u16,
+    pub faulted: u16,
+    pub known: u8,
+    pub share: f64,
+}
+
+// The overview.
+#[repr(C)]
+pub struct LineOverview {
+    pub number: u8,
+    pub groups: [LineGroup; 16],
+    pub site: LineGroup,
+}
+
+// A read, the reply to its verdict, and the message put into the table.
+#[repr(C)]
+pub struct LineHearing {
+    pub reader: LineReader,
+    pub used: usize,
+    pub verdict: u8,
+    pub type_byte: u8,
+    pub reply: u8,
+    pub length: u8,
+    pub message: [u8; 18],
+}
+
+fn framing_for(framing: u8) -> Framing
+    ensures { λ r. ⌜ r ≡ framingFor framing ⌝ }
+{
+    if framing == 0 {
+        Framing::Binary
+    } else {
+        Framing::Ascii
+    }
+}
+
+fn framing_number(framing: Framing) -> u8
+    ensures { λ r. ⌜ r ≡ framingNumber framing ⌝ }
+{
+    match framing {
+        Framing::Binary => 0,
+        Framing::Ascii => 1,
+    }
+}
+
+fn pending_for(framing: Framing, mode: u8, digit: u8) -> Mode
+    ensures { λ r. ⌜ r ≡ pendingFor framing mode digit ⌝ }
+{
+    match framing {
+        Framing::Binary => {
+            if mode == 2 {
+                Mode::Escape
+            } else {
+                Mode::Open(Framing::Binary)
+            }
+        }
+        Framing::Ascii => {
+            if mode == 3 {
+                Mode::Digit(digit)
+            } else {
+                Mode::Open(Framing::Ascii)
+            }
+        }
+    }
+}
+
+fn reader_for(c: LineReader) -> Reader
+    ensures { λ r. ⌜ r ≡ readerFor c ⌝ }
+{
+    let framing = framing_for(c.framing);
+    let bytes = c.bytes;
+    let mode = if c.mode == 0 {
+        Mode::Skipping(framing)
+    } else {
+        pending_for(framing, c.mode, c.digit)
+    };
+    Reader {
+        mode: mode,
+        held: c.held as usize,
+        bytes: bytes,
+    }
+}
+
+fn line_reader(reader: Reader) -> LineReader
+    requires { ⌜ reader .held ≤ 65535 ⌝ }
+    ensures { λ r. ⌜ r ≡ lineReader reader ⌝ }
+{
+    let mode = reader.mode;
+    let bytes = reader.bytes;
+    let held = reader.held as u16;
+    match mode {
+        Mode::Skipping(f) => LineReader {
+            framing: framing_number(f),
+            mode: 0,
+            digit: 0,
+            held: held,
+            bytes: bytes,
+        },
+        Mode::Open(f) => LineReader {
+            framing: framing_number(f),
+            mode: 1,
+            digit: 0,
+            held: held,
+            bytes: bytes,
+        },
+        Mode::Escape => LineReader {
+            framing: 0,
+            mode: 2,
+            digit: 0,
+            held: held,
+            bytes: bytes,
+        },
+        Mode::Digit(d) => LineReader {
+            framing: 1,
+            mode: 3,
+            digit: d,
+            held: held,
+            bytes: bytes,
+        },
+    }
+}
+
+// A share that was not heard: C has no case without a number, and a NaN at least poisons sums.
+fn share_number(share: Share) -> f64
+    ensures { λ r. ⌜ r ≡ Option·getD (shareNumber share) nan ⌝ }
+{
+    match share {
+        Share::Share(x) => x,
+        Share::NotHeard => 0.0 / 0.0,
+    }
+}
+
+fn line_group(group: Group) -> LineGroup
+    ensures { λ r. ⌜ r ≡ lineGroup (groupValues group) ⌝ }
+{
+    let share = group.share;
+    let heard = group.heard;
+    LineGroup {
+        heard: heard,
+        faulted: group.faulted,
+        known: if heard == 0 { 0 } else { 1 },
+        share: share_number(share),
+    }
+}
+
+// A message in its array, zero beyond its length.
+fn in_array(message: &[u8]) -> [u8; 18]
+    requires { ⌜ length (now message) ≤ 18 ⌝ }
+    ensures { λ r. ⌜ r ≡ padded (now (message .entry)) ⌝ }
+{
+    let mut array = [0u8; 18];
+    let mut i = 0;
+    while i < message.len() {
+        array[i] = message[i];
+        i += 1;
+    }
+    array
+}
+
+// Document 01's soundness, after which a mode that the framing does not have reads as mode 1.
+fn sound_line(c: LineReader) -> bool
+    ensures { λ r. ⌜ r ≡ soundLine c ⌝ }
+{
+    if 3 < c.mode {
+        return false;
+    }
+    if c.mode == 3 {
+        if 15 < c.digit {
+            return false;
+        }
+    }
+    let reader = reader_for(c);
+    reader.sound()
+}
+
+// A refusal: the reader as it was handed in.
+fn refused(c: LineReader, number: u8) -> LineReading
+    ensures { λ r. ⌜ r ≡ lineReading (lineRefused c number) ⌝ }
+{
+    LineReading {
+        reader: c,
+        used: 0,
+        verdict: number,
+        type_byte: 0,
+        length: 0,
+        message: [0u8; 18],
+    }
+}
+
+// What was read, in numbers.
+fn took(reader: Reader, used: usize, said: Said) -> LineReading
+    requires { ⌜ reader .held ≤ 65535 ⌝ }
+    requires { ⌜ lengthSaid said ≤ 18 ⌝ }
+    ensures { λ r. ⌜ r ≡ lineReading (record { reader = lineReader reader; used = used; said = handedIn said (reader .bytes) }) ⌝ }
+{
+    let bytes = reader.bytes;
+    let next = line_reader(reader);
+    match said {
+        Said::Silent => LineReading {
+            reader: next,
+            used,
+            verdict: 255,
+            type_byte: 0,
+            length: 0,
+            message: [0u8; 18],
+        },
+        Said::Gave(verdict) => {
+            let end = verdict.length as usize + 1;
+            LineReading {
+                reader: next,
+                used,
+                verdict: verdict.number,
+                type_byte: verdict.type_byte,
+                length: verdict.length,
+                message: in_array(&bytes[1..end]),
+            }
+        }
+    }
+}
+
+fn with_reply(reading: LineReading, reply: u8) -> LineHearing
+    ensures { λ r. ⌜ r ≡ withReply reading reply ⌝ }
+{
+    let reader = reading.reader;
+    let message = reading.message;
+    LineHearing {
+        reader,
+        used: reading.used,
+        verdict: reading.verdict,
+        type_byte: reading.type_byte,
+        reply,
+        length: reading.length,
+        message,
+    }
+}
+
+fn reply_number(reply: Reply) -> u8
+    ensures { λ r. ⌜ r ≡ replyNumber reply ⌝ }
+{
+    match reply {
+        Reply::Nothing => 0,
+        Reply::Acknowledge => 0x1D,
+        Reply::NegativeAcknowledge => 0x1E,
+        Reply::Rejected => 0x1F,
+    }
+}
+
+fn line_groups(groups: [Group; 16]) -> [LineGroup; 16]
+    ensures { λ r. ⌜ r ≡ map lineGroup (map groupValues groups) ⌝ }
+{
+    let first = groups[0];
+    let mut lines = [line_group(first); 16];
+    let mut i = 0;
+    while i < 16 {
+        let group = groups[i];
+        lines[i] = line_group(group);
+        i += 1;
+    }
+    lines
+}
+
+// A reader that has read nothing.
+#[no_mangle]
+pub extern "C" fn nx584_fresh(framing: u8) -> LineReader
+    ensures { λ r. ⌜ r ≡ lineReader (freshReader (framingFor framing)) ⌝ }
+{
+    line_reader(Reader::fresh(framing_for(framing)))
+}
+
+// Up to and including the first verdict's byte, or to the end.
+#[no_mangle]
+pub extern "C" fn nx584_read(reader: LineReader, bytes: &[u8]) -> LineReading
+    ensures { λ r. ⌜ r ≡ lineReading (lineRead reader (now (bytes .entry))) ⌝ }
+{
+    if !sound_line(reader) {
+        return refused(reader, 12);
+    }
+    let reading = reader::read(reader_for(reader), bytes);
+    let next = reading.reader;
+    let said = reading.said;
+    took(next, reading.used, said)
+}
+
+// A read of one byte.
+#[no_mangle]
+pub extern "C" fn nx584_step(reader: LineReader, byte: u8) -> LineReading
+    ensures { λ r. ⌜ r ≡ lineReading (lineRead reader (byte ∷ [])) ⌝ }
+{
+    let one = [byte];
+    nx584_read(reader, &one)
+}
+
+// The frame of a message, into the part of `out` that starts at `place`.
+#[no_mangle]
+pub extern "C" fn nx584_write(
+    message: &[u8],
+    framing: u8,
+    out: &mut [u8],
+    place: usize,
+) -> LineWritten
+    ensures { λ r. ⌜ LineWrote (now (message .entry)) framing (now (out .entry)) place r (now (out .exit)) ⌝ }
+{
+    let written = writer::write(message, framing_for(framing), out, place);
+    LineWritten {
+        number: written.number,
+        length: written.length,
+    }
+}
+
+// The number of the message with which a host answers a verdict; 0: none.
+#[no_mangle]
+pub extern "C" fn nx584_reply(verdict: u8, type_byte: u8) -> u8
+    ensures { λ r. ⌜ r ≡ replyOf verdict «type_byte» ⌝ }
+{
+    reply_number(replies::reply(verdict, type_byte))
+}
+
+// A message into a table.
+#[no_mangle]
+pub extern "C" fn nx584_apply(table: &mut [u8], message: &[u8]) -> u8
+    ensures { λ r. ⌜ Applied (now (table .entry)) (now (message .entry)) r (now (table .exit)) ⌝ }
+{
+    table::apply(table, message)
+}
+
+// The sixteen groups and the site of a table.
+#[no_mangle]
+pub extern "C" fn nx584_view(table: &[u8]) -> LineOverview
+    ensures { λ r. ⌜ r ≡ lineOverview (seenOf (now (table .entry))) ⌝ }
+{
+    let seen = overview::view(table);
+    let groups = seen.groups;
+    let site = seen.site;
+    LineOverview {
+        number: seen.number,
+        groups: line_groups(groups),
+        site: line_group(site),
+    }
+}
+
+// A read, the reply to its verdict, and a good message put into the table.
+#[no_mangle]
+pub extern "C" fn nx584_hear(reader: LineReader, table: &mut [u8], bytes: &[u8]) -> LineHearing
+    ensures { λ r. ⌜ LineHears reader (now (table .entry)) (now (bytes .entry)) r (now (table .exit)) ⌝ }
+{
+    if table.len() != 2132 {
+        return with_reply(refused(reader, 11), 0);
+    }
+    if !sound_line(reader) {
+        return with_reply(refused(reader, 12), 0);
+    }
+    let hearing = host::hear(reader_for(reader), table, bytes);
+    let next = hearing.reader;
+    let said = hearing.said;
+    let reply = hearing.reply;
+    with_reply(took(next, hearing.used, said), reply_number(reply))
+}
