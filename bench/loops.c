@@ -1,0 +1,75 @@
+/* The loops that the bench measures: the calls of nx584.h as a host makes them. */
+#include "loops.h"
+#include "nx584.h"
+
+static uint64_t mix(uint64_t sum, uint64_t answer)
+{
+    return (sum ^ answer) * 0x9E3779B97F4A7C15u;
+}
+
+uint64_t loop_read(uint8_t framing, const uint8_t *bytes, size_t length)
+{
+    nx584_reading a;
+    uint64_t sum = 0;
+    a.reader = nx584_fresh(framing);
+    while (length > 0) {
+        a = nx584_read(a.reader, bytes, length);
+        sum = mix(sum, a.used << 24 | (uint64_t)a.verdict << 16 | a.length << 8 | a.message[0]);
+        bytes += a.used;
+        length -= a.used;
+    }
+    return sum;
+}
+
+uint64_t loop_write(uint8_t framing, const messages *list)
+{
+    uint8_t out[64] = {0};
+    uint64_t sum = 0;
+    const uint8_t *m = list->bytes;
+    for (size_t k = 0; k < list->count; k++, m += 1 + *m) {
+        nx584_written w = nx584_write(m + 1, *m, framing, out, sizeof out, k & 15);
+        sum = mix(sum, w.length << 16 | w.number << 8 | out[((k & 15) + w.length - 1) % sizeof out]);
+    }
+    return sum;
+}
+
+uint64_t loop_apply(uint8_t *table, const messages *list)
+{
+    uint64_t sum = 0;
+    const uint8_t *m = list->bytes;
+    for (size_t k = 0; k < list->count; k++, m += 1 + *m)
+        sum = mix(sum, nx584_apply(table, NX584_TABLE_BYTES, m + 1, *m) + table[8 * k % 2048 + 7]);
+    return sum;
+}
+
+/* One zone changes between two views, so that none can be left out. */
+uint64_t loop_view(uint8_t *table, size_t times)
+{
+    uint64_t sum = 0;
+    for (size_t k = 0; k < times; k++) {
+        table[8 * (k % 256)] ^= 1;
+        nx584_overview v = nx584_view(table, NX584_TABLE_BYTES);
+        sum = mix(sum, v.site.heard + 256u * v.site.faulted + 65536u * v.groups[k % 16].faulted +
+                           (v.site.known ? (uint64_t)(v.site.share * 1000) : 0));
+    }
+    return sum;
+}
+
+uint64_t loop_hear(uint8_t framing, uint8_t *table, const uint8_t *bytes, size_t length)
+{
+    nx584_hearing a;
+    uint64_t sum = 0;
+    a.reader = nx584_fresh(framing);
+    while (length > 0) {
+        a = nx584_hear(a.reader, table, NX584_TABLE_BYTES, bytes, length);
+        sum = mix(sum, a.used << 16 | (uint64_t)a.verdict << 8 | a.reply);
+        bytes += a.used;
+        length -= a.used;
+    }
+    return sum;
+}
+
+size_t reader_bytes(void)
+{
+    return sizeof(nx584_reader);
+}

@@ -1,0 +1,22 @@
+/* What bench.c measures. Only numbers and pointers cross here. */
+#ifndef LOOPS_H
+#define LOOPS_H
+
+#include <stddef.h>
+#include <stdint.h>
+
+/* Messages one after the other, each after its length byte. */
+typedef struct {
+    const uint8_t *bytes;
+    size_t count;
+} messages;
+
+/* Each loop gives a number made from every answer, by which runs are compared. */
+uint64_t loop_read(uint8_t framing, const uint8_t *bytes, size_t length);
+uint64_t loop_write(uint8_t framing, const messages *list);
+uint64_t loop_apply(uint8_t *table, const messages *list);
+uint64_t loop_view(uint8_t *table, size_t times);
+uint64_t loop_hear(uint8_t framing, uint8_t *table, const uint8_t *bytes, size_t length);
+size_t reader_bytes(void);
+
+#endif

@@ -1,0 +1,347 @@
+/* Calls nx584.h for another program: calls come in on standard input, answers go out on standard
+ * output. Freestanding: the system calls are its own, so that it needs no C library's headers and runs
+ * under an emulator too.
+ *
+ * A call is one byte, the function below with the two flags, and then the operands in the order of the
+ * header. Numbers are little-endian: a size_t has 8 bytes, a reader 26, and a buffer is its length in 4
+ * bytes and then its bytes. An answer is the function's result, field by field in the header's order.
+ * After a buffer that is lent for writing, the answer has its bytes, and before them one byte: 1 if no
+ * byte beside the buffer was touched.
+ *
+ *   fresh  framing                  reader                 keeps the reader
+ *   step   [reader] byte            reading
+ *   read   [reader] bytes           reading
+ *   write  message framing out place   written, beside, out
+ *   reply  verdict type             number
+ *   apply  [table] message          number, beside[, table]
+ *   view   [table]                  overview
+ *   hear   [reader table] bytes     hearing, beside[, table]
+ *   keep   table                    nothing                keeps the table
+ *   show                            the kept table
+ *
+ * With the flag KEPT a call has no operand in brackets: it takes the kept reader and table, and keeps
+ * the next reader and the table as they come back. With the flag NULLS an empty buffer is passed as
+ * NULL. The end of the input, between two calls, ends the program with status 0; what is no call ends
+ * it with another. */
+#include "nx584.h"
+
+enum { FRESH = 1, STEP, READ, WRITE, REPLY, APPLY, VIEW, HEAR, KEEP, SHOW, FUNCTION = 0x1F };
+enum { NULLS = 0x40, KEPT = 0x80 };
+enum { LONGEST_BUFFER = 1 << 20, BESIDE = 16, MARK = 0xA5 };
+
+/* ---- the system */
+
+#if defined(__x86_64__)
+enum { SYS_READ = 0, SYS_WRITE = 1, SYS_EXIT = 231 };
+static long system_call(long number, long a, long b, long c)
+{
+    long result;
+    __asm__ volatile("syscall"
+                     : "=a"(result)
+                     : "a"(number), "D"(a), "S"(b), "d"(c)
+                     : "rcx", "r11", "memory");
+    return result;
+}
+#elif defined(__aarch64__)
+enum { SYS_READ = 63, SYS_WRITE = 64, SYS_EXIT = 94 };
+static long system_call(long number, long a, long b, long c)
+{
+    register long x8 __asm__("x8") = number;
+    register long x0 __asm__("x0") = a;
+    register long x1 __asm__("x1") = b;
+    register long x2 __asm__("x2") = c;
+    __asm__ volatile("svc 0" : "+r"(x0) : "r"(x8), "r"(x1), "r"(x2) : "memory");
+    return x0;
+}
+#else
+#error "no system calls for this processor"
+#endif
+
+_Noreturn static void leave(int status)
+{
+    for (;;)
+        system_call(SYS_EXIT, status, 0, 0);
+}
+
+void *memcpy(void *, const void *, size_t);
+void *memset(void *, int, size_t);
+
+/* ---- input and output, buffered */
+
+static uint8_t in[1 << 16], out[1 << 16];
+static size_t in_at, in_end, out_end;
+
+static void flush(void)
+{
+    for (size_t at = 0; at < out_end;) {
+        long n = system_call(SYS_WRITE, 1, (long)(out + at), (long)(out_end - at));
+        if (n <= 0)
+            leave(3);
+        at += (size_t)n;
+    }
+    out_end = 0;
+}
+
+/* The answers so far go out before more input is waited for. */
+static int refill(void)
+{
+    flush();
+    long n = system_call(SYS_READ, 0, (long)in, sizeof in);
+    if (n < 0)
+        leave(3);
+    in_at = 0;
+    in_end = (size_t)n;
+    return n > 0;
+}
+
+static void take(uint8_t *to, size_t n)
+{
+    while (n > 0) {
+        if (in_at == in_end && !refill())
+            leave(2);
+        size_t some = in_end - in_at < n ? in_end - in_at : n;
+        memcpy(to, in + in_at, some);
+        to += some;
+        in_at += some;
+        n -= some;
+    }
+}
+
+static uint64_t take_number(size_t width)
+{
+    uint8_t b[8];
+    uint64_t v = 0;
+    take(b, width);
+    for (size_t i = width; i-- > 0;)
+        v = v << 8 | b[i];
+    return v;
+}
+
+static void give(const void *from, size_t n)
+{
+    const uint8_t *bytes = from;
+    while (n > 0) {
+        if (out_end == sizeof out)
+            flush();
+        size_t some = sizeof out - out_end < n ? sizeof out - out_end : n;
+        memcpy(out + out_end, bytes, some);
+        bytes += some;
+        out_end += some;
+        n -= some;
+    }
+}
+
+static void give_number(uint64_t v, size_t width)
+{
+    uint8_t b[8];
+    for (size_t i = 0; i < width; i++)
+        b[i] = (uint8_t)(v >> 8 * i);
+    give(b, width);
+}
+
+/* ---- operands and results */
+
+/* A buffer's bytes stand between marks, from another address modulo 8 each time. */
+typedef struct {
+    uint8_t room[LONGEST_BUFFER + 2 * BESIDE + 8];
+    size_t begin, length;
+} buffer;
+
+static buffer bytes, message, lent, made_table, kept_table;
+static nx584_reader kept_reader;
+static unsigned flags, turn;
+
+static void take_buffer(buffer *to)
+{
+    to->length = take_number(4);
+    if (to->length > LONGEST_BUFFER)
+        leave(2);
+    to->begin = BESIDE + (turn++ & 7);
+    memset(to->room, MARK, to->begin);
+    take(to->room + to->begin, to->length);
+    memset(to->room + to->begin + to->length, MARK, BESIDE);
+}
+
+static uint8_t *pointer(buffer *to)
+{
+    return to->length == 0 && (flags & NULLS) ? 0 : to->room + to->begin;
+}
+
+static void give_beside(const buffer *from)
+{
+    uint8_t untouched = 1;
+    for (size_t i = 0; i < from->begin; i++)
+        untouched &= from->room[i] == MARK;
+    for (size_t i = 0; i < BESIDE; i++)
+        untouched &= from->room[from->begin + from->length + i] == MARK;
+    give(&untouched, 1);
+}
+
+static void give_buffer(const buffer *from)
+{
+    give(from->room + from->begin, from->length);
+}
+
+static nx584_reader take_reader(void)
+{
+    nx584_reader r;
+    if (flags & KEPT)
+        return kept_reader;
+    r.framing = (uint8_t)take_number(1);
+    r.mode = (uint8_t)take_number(1);
+    r.digit = (uint8_t)take_number(1);
+    r.held = (uint16_t)take_number(2);
+    take(r.bytes, sizeof r.bytes);
+    return r;
+}
+
+static void give_reader(const nx584_reader *r)
+{
+    give_number(r->framing, 1);
+    give_number(r->mode, 1);
+    give_number(r->digit, 1);
+    give_number(r->held, 2);
+    give(r->bytes, sizeof r->bytes);
+    if (flags & KEPT)
+        kept_reader = *r;
+}
+
+static buffer *take_table(void)
+{
+    if (flags & KEPT)
+        return &kept_table;
+    take_buffer(&made_table);
+    return &made_table;
+}
+
+static void give_table(const buffer *table)
+{
+    give_beside(table);
+    if (!(flags & KEPT))
+        give_buffer(table);
+}
+
+static void give_reading(const nx584_reading *a)
+{
+    give_reader(&a->reader);
+    give_number(a->used, 8);
+    give_number(a->verdict, 1);
+    give_number(a->type, 1);
+    give_number(a->length, 1);
+    give(a->message, sizeof a->message);
+}
+
+static void give_hearing(const nx584_hearing *a)
+{
+    give_reader(&a->reader);
+    give_number(a->used, 8);
+    give_number(a->verdict, 1);
+    give_number(a->type, 1);
+    give_number(a->reply, 1);
+    give_number(a->length, 1);
+    give(a->message, sizeof a->message);
+}
+
+static void give_group(const nx584_group *g)
+{
+    uint64_t share;
+    memcpy(&share, &g->share, sizeof share);
+    give_number(g->heard, 2);
+    give_number(g->faulted, 2);
+    give_number(g->known, 1);
+    give_number(share, 8);
+}
+
+/* ---- the calls */
+
+static void call_fresh(void)
+{
+    nx584_reader r = nx584_fresh((uint8_t)take_number(1));
+    flags |= KEPT;
+    give_reader(&r);
+}
+
+static void call_step(void)
+{
+    nx584_reader r = take_reader();
+    nx584_reading a = nx584_step(r, (uint8_t)take_number(1));
+    give_reading(&a);
+}
+
+static void call_read(void)
+{
+    nx584_reader r = take_reader();
+    take_buffer(&bytes);
+    nx584_reading a = nx584_read(r, pointer(&bytes), bytes.length);
+    give_reading(&a);
+}
+
+static void call_write(void)
+{
+    take_buffer(&message);
+    uint8_t framing = (uint8_t)take_number(1);
+    take_buffer(&lent);
+    size_t place = (size_t)take_number(8);
+    nx584_written w =
+        nx584_write(pointer(&message), message.length, framing, pointer(&lent), lent.length, place);
+    give_number(w.number, 1);
+    give_number(w.length, 8);
+    give_beside(&lent);
+    give_buffer(&lent);
+}
+
+static void call_reply(void)
+{
+    uint8_t verdict = (uint8_t)take_number(1);
+    give_number(nx584_reply(verdict, (uint8_t)take_number(1)), 1);
+}
+
+static void call_apply(void)
+{
+    buffer *table = take_table();
+    take_buffer(&message);
+    give_number(nx584_apply(pointer(table), table->length, pointer(&message), message.length), 1);
+    give_table(table);
+}
+
+static void call_view(void)
+{
+    buffer *table = take_table();
+    nx584_overview v = nx584_view(pointer(table), table->length);
+    give_number(v.number, 1);
+    for (int k = 0; k < 16; k++)
+        give_group(&v.groups[k]);
+    give_group(&v.site);
+}
+
+static void call_hear(void)
+{
+    nx584_reader r = take_reader();
+    buffer *table = take_table();
+    take_buffer(&bytes);
+    nx584_hearing a =
+        nx584_hear(r, pointer(table), table->length, pointer(&bytes), bytes.length);
+    give_hearing(&a);
+    give_table(table);
+}
+
+int main(void)
+{
+    while (in_at < in_end || refill()) {
+        flags = (unsigned)take_number(1);
+        switch (flags & FUNCTION) {
+        case FRESH: call_fresh(); break;
+        case STEP: call_step(); break;
+        case READ: call_read(); break;
+        case WRITE: call_write(); break;
+        case REPLY: call_reply(); break;
+        case APPLY: call_apply(); break;
+        case VIEW: call_view(); break;
+        case HEAR: call_hear(); break;
+        case KEEP: take_buffer(&kept_table); break;
+        case SHOW: give_buffer(&kept_table); break;
+        default: leave(2);
+        }
+    }
+    leave(0);
+}

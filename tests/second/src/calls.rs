@@ -1,0 +1,426 @@
+//! The calls of nx584.h, their answers, and both on the wire of tests/driver.c.
+
+use std::fmt;
+use std::io::{self, Read};
+
+use crate::messages::LONGEST;
+use crate::reader::{read, Reader, Reading};
+use crate::table::{apply, hear, view, Group, Overview};
+use crate::writer::{reply, write, Written};
+
+/// A call. Where the reader or the table is None, the driver's kept one is meant.
+#[derive(Clone, Debug)]
+pub enum Call {
+    Fresh { framing: u8 },
+    Step { reader: Option<Reader>, byte: u8 },
+    Read { reader: Option<Reader>, bytes: Vec<u8> },
+    Write { message: Vec<u8>, framing: u8, out: Vec<u8>, place: u64 },
+    Reply { verdict: u8, type_byte: u8 },
+    Apply { table: Option<Vec<u8>>, message: Vec<u8> },
+    View { table: Option<Vec<u8>> },
+    Hear { with: Option<(Reader, Vec<u8>)>, bytes: Vec<u8> },
+    Keep { table: Vec<u8> },
+    Show { length: usize },
+}
+
+/// What a call answers. A table is there where the call brought its own.
+#[derive(Clone, Debug)]
+pub enum Answer {
+    Reader(Reader),
+    Reading(Reading),
+    Written(Written),
+    Reply(u8),
+    Applied {
+        number: u8,
+        table: Vec<u8>,
+    },
+    View(Overview),
+    Hearing {
+        reading: Reading,
+        reply: u8,
+        table: Vec<u8>,
+    },
+    Nothing,
+    Table(Vec<u8>),
+    /// A byte beside a lent buffer was touched.
+    Beside,
+}
+
+/// Something that takes calls: the second program itself, or the library behind the driver.
+pub trait Library {
+    fn call(&mut self, call: &Call) -> Answer;
+}
+
+/// The second program's own answers.
+pub struct Second {
+    reader: Reader,
+    table: Vec<u8>,
+}
+
+impl Second {
+    pub fn new() -> Second {
+        Second { reader: Reader::fresh(0), table: Vec::new() }
+    }
+
+    fn reading(&mut self, own: &Option<Reader>, bytes: &[u8]) -> Answer {
+        Answer::Reading(match own {
+            Some(reader) => read(reader, bytes),
+            None => {
+                let reading = read(&self.reader, bytes);
+                self.reader = reading.reader.clone();
+                reading
+            }
+        })
+    }
+}
+
+impl Library for Second {
+    fn call(&mut self, call: &Call) -> Answer {
+        match call {
+            Call::Fresh { framing } => {
+                self.reader = Reader::fresh(*framing);
+                Answer::Reader(self.reader.clone())
+            }
+            Call::Step { reader, byte } => self.reading(reader, &[*byte]),
+            Call::Read { reader, bytes } => self.reading(reader, bytes),
+            Call::Write { message, framing, out, place } => {
+                Answer::Written(write(message, *framing, out, *place))
+            }
+            Call::Reply { verdict, type_byte } => Answer::Reply(reply(*verdict, *type_byte)),
+            Call::Apply { table: Some(table), message } => {
+                let mut table = table.clone();
+                Answer::Applied { number: apply(&mut table, message), table }
+            }
+            Call::Apply { table: None, message } => {
+                Answer::Applied { number: apply(&mut self.table, message), table: Vec::new() }
+            }
+            Call::View { table } => Answer::View(view(table.as_ref().unwrap_or(&self.table))),
+            Call::Hear { with: Some((reader, table)), bytes } => {
+                let mut table = table.clone();
+                let (reading, reply) = hear(reader, &mut table, bytes);
+                Answer::Hearing { reading, reply, table }
+            }
+            Call::Hear { with: None, bytes } => {
+                let (reading, reply) = hear(&self.reader, &mut self.table, bytes);
+                self.reader = reading.reader.clone();
+                Answer::Hearing { reading, reply, table: Vec::new() }
+            }
+            Call::Keep { table } => {
+                self.table = table.clone();
+                Answer::Nothing
+            }
+            Call::Show { .. } => Answer::Table(self.table.clone()),
+        }
+    }
+}
+
+fn is_refusal(verdict: u8) -> bool {
+    verdict == 11 || verdict == 12
+}
+
+fn reading_is_met(expected: &Reading, answered: &Reading) -> bool {
+    let reader = if is_refusal(expected.verdict) {
+        expected.reader == answered.reader
+    } else {
+        expected.reader.is_met_by(&answered.reader)
+    };
+    let rest = |r: &Reading| (r.used, r.verdict, r.type_byte, r.length, r.message);
+    reader && rest(expected) == rest(answered)
+}
+
+impl Answer {
+    /// Whether what the library answered is what is expected.
+    pub fn is_met_by(&self, answered: &Answer) -> bool {
+        match (self, answered) {
+            (Answer::Reader(e), Answer::Reader(a)) => e.is_met_by(a),
+            (Answer::Reading(e), Answer::Reading(a)) => reading_is_met(e, a),
+            (Answer::Written(e), Answer::Written(a)) => e == a,
+            (Answer::Reply(e), Answer::Reply(a)) => e == a,
+            (Answer::Applied { number: e, table: t }, Answer::Applied { number: a, table: u }) => {
+                e == a && t == u
+            }
+            (Answer::View(e), Answer::View(a)) => {
+                e.number == a.number && e.groups.iter().zip(&a.groups).all(|(e, a)| e.is_met_by(a))
+            }
+            (
+                Answer::Hearing { reading: e, reply: r, table: t },
+                Answer::Hearing { reading: a, reply: s, table: u },
+            ) => reading_is_met(e, a) && r == s && t == u,
+            (Answer::Nothing, Answer::Nothing) => true,
+            (Answer::Table(e), Answer::Table(a)) => e == a,
+            _ => false,
+        }
+    }
+}
+
+// ---- on the wire
+
+const NULLS: u8 = 0x40;
+const KEPT: u8 = 0x80;
+
+fn put_buffer(line: &mut Vec<u8>, buffer: &[u8]) {
+    line.extend((buffer.len() as u32).to_le_bytes());
+    line.extend(buffer);
+}
+
+fn put_reader(line: &mut Vec<u8>, reader: &Reader) {
+    line.extend([reader.framing, reader.mode, reader.digit]);
+    line.extend(reader.held.to_le_bytes());
+    line.extend(reader.bytes);
+}
+
+impl Call {
+    fn is_kept(&self) -> bool {
+        matches!(
+            self,
+            Call::Step { reader: None, .. }
+                | Call::Read { reader: None, .. }
+                | Call::Apply { table: None, .. }
+                | Call::View { table: None }
+                | Call::Hear { with: None, .. }
+        )
+    }
+
+    fn function(&self) -> u8 {
+        match self {
+            Call::Fresh { .. } => 1,
+            Call::Step { .. } => 2,
+            Call::Read { .. } => 3,
+            Call::Write { .. } => 4,
+            Call::Reply { .. } => 5,
+            Call::Apply { .. } => 6,
+            Call::View { .. } => 7,
+            Call::Hear { .. } => 8,
+            Call::Keep { .. } => 9,
+            Call::Show { .. } => 10,
+        }
+    }
+
+    /// Appends the call as the driver reads it; nulls: whether an empty buffer is passed as NULL.
+    pub fn put(&self, line: &mut Vec<u8>, nulls: bool) {
+        let kept = if self.is_kept() { KEPT } else { 0 };
+        line.push(self.function() | kept | if nulls { NULLS } else { 0 });
+        match self {
+            Call::Fresh { framing } => line.push(*framing),
+            Call::Step { reader, byte } => {
+                reader.iter().for_each(|r| put_reader(line, r));
+                line.push(*byte);
+            }
+            Call::Read { reader, bytes } => {
+                reader.iter().for_each(|r| put_reader(line, r));
+                put_buffer(line, bytes);
+            }
+            Call::Write { message, framing, out, place } => {
+                put_buffer(line, message);
+                line.push(*framing);
+                put_buffer(line, out);
+                line.extend(place.to_le_bytes());
+            }
+            Call::Reply { verdict, type_byte } => line.extend([*verdict, *type_byte]),
+            Call::Apply { table, message } => {
+                table.iter().for_each(|t| put_buffer(line, t));
+                put_buffer(line, message);
+            }
+            Call::View { table } => table.iter().for_each(|t| put_buffer(line, t)),
+            Call::Hear { with, bytes } => {
+                if let Some((reader, table)) = with {
+                    put_reader(line, reader);
+                    put_buffer(line, table);
+                }
+                put_buffer(line, bytes);
+            }
+            Call::Keep { table } => put_buffer(line, table),
+            Call::Show { .. } => {}
+        }
+    }
+
+    /// The answer to this call as the driver writes it.
+    pub fn take_answer(&self, from: &mut impl Read) -> io::Result<Answer> {
+        let mut taken = Taken { from };
+        Ok(match self {
+            Call::Fresh { .. } => Answer::Reader(taken.reader()?),
+            Call::Step { .. } | Call::Read { .. } => Answer::Reading(taken.reading(false)?.0),
+            Call::Write { out, .. } => {
+                let (number, length) = (taken.byte()?, taken.number(8)?);
+                match taken.lent(out.len())? {
+                    Some(out) => Answer::Written(Written { number, length, out }),
+                    None => Answer::Beside,
+                }
+            }
+            Call::Reply { .. } => Answer::Reply(taken.byte()?),
+            Call::Apply { table, .. } => {
+                let number = taken.byte()?;
+                match taken.lent(table.as_ref().map_or(0, Vec::len))? {
+                    Some(table) => Answer::Applied { number, table },
+                    None => Answer::Beside,
+                }
+            }
+            Call::View { .. } => Answer::View(taken.overview()?),
+            Call::Hear { with, .. } => {
+                let (reading, reply) = taken.reading(true)?;
+                match taken.lent(with.as_ref().map_or(0, |w| w.1.len()))? {
+                    Some(table) => Answer::Hearing { reading, reply, table },
+                    None => Answer::Beside,
+                }
+            }
+            Call::Keep { .. } => Answer::Nothing,
+            Call::Show { length } => Answer::Table(taken.bytes(*length)?),
+        })
+    }
+}
+
+struct Taken<'a, R: Read> {
+    from: &'a mut R,
+}
+
+impl<R: Read> Taken<'_, R> {
+    fn bytes(&mut self, length: usize) -> io::Result<Vec<u8>> {
+        let mut bytes = vec![0; length];
+        self.from.read_exact(&mut bytes)?;
+        Ok(bytes)
+    }
+
+    fn byte(&mut self) -> io::Result<u8> {
+        let mut byte = [0];
+        self.from.read_exact(&mut byte)?;
+        Ok(byte[0])
+    }
+
+    fn number(&mut self, width: usize) -> io::Result<u64> {
+        let mut bytes = [0; 8];
+        self.from.read_exact(&mut bytes[..width])?;
+        Ok(u64::from_le_bytes(bytes))
+    }
+
+    /// A lent buffer's bytes; none where one beside it was touched.
+    fn lent(&mut self, length: usize) -> io::Result<Option<Vec<u8>>> {
+        let untouched = self.byte()? == 1;
+        let bytes = self.bytes(length)?;
+        Ok(if untouched { Some(bytes) } else { None })
+    }
+
+    fn reader(&mut self) -> io::Result<Reader> {
+        let (framing, mode, digit) = (self.byte()?, self.byte()?, self.byte()?);
+        let held = self.number(2)? as u16;
+        let mut bytes = [0; LONGEST + 3];
+        self.from.read_exact(&mut bytes)?;
+        Ok(Reader { framing, mode, digit, held, bytes })
+    }
+
+    fn reading(&mut self, with_reply: bool) -> io::Result<(Reading, u8)> {
+        let (reader, used) = (self.reader()?, self.number(8)?);
+        let (verdict, type_byte) = (self.byte()?, self.byte()?);
+        let reply = if with_reply { self.byte()? } else { 0 };
+        let length = self.byte()?;
+        let mut message = [0; LONGEST];
+        self.from.read_exact(&mut message)?;
+        Ok((Reading { reader, used, verdict, type_byte, length, message }, reply))
+    }
+
+    fn group(&mut self) -> io::Result<Group> {
+        let (heard, faulted) = (self.number(2)? as u16, self.number(2)? as u16);
+        let (known, share) = (self.byte()?, f64::from_bits(self.number(8)?));
+        Ok(Group { heard, faulted, known, share })
+    }
+
+    fn overview(&mut self) -> io::Result<Overview> {
+        let number = self.byte()?;
+        let mut groups = [Group { heard: 0, faulted: 0, known: 0, share: 0.0 }; 17];
+        for group in &mut groups {
+            *group = self.group()?;
+        }
+        Ok(Overview { number, groups })
+    }
+}
+
+// ---- in print
+
+/// Bytes as hex digits, to paste.
+pub struct Hex<'a>(pub &'a [u8]);
+
+impl fmt::Display for Hex<'_> {
+    fn fmt(&self, f: &mut fmt::Formatter) -> fmt::Result {
+        write!(f, "[{}]", self.0.len())?;
+        self.0.iter().try_for_each(|b| write!(f, " {b:02X}"))
+    }
+}
+
+impl fmt::Display for Reader {
+    fn fmt(&self, f: &mut fmt::Formatter) -> fmt::Result {
+        let Reader { framing, mode, digit, held, bytes } = self;
+        write!(f, "framing {framing} mode {mode} digit {digit} held {held} bytes {}", Hex(bytes))
+    }
+}
+
+impl fmt::Display for Reading {
+    fn fmt(&self, f: &mut fmt::Formatter) -> fmt::Result {
+        let Reading { reader, used, verdict, type_byte, length, message } = self;
+        let message = Hex(message);
+        write!(f, "used {used} verdict {verdict} type {type_byte:02X} length {length} message {message}")?;
+        write!(f, " reader: {reader}")
+    }
+}
+
+fn own_or_kept(own: &Option<impl fmt::Display>) -> String {
+    own.as_ref().map_or_else(|| "the kept one".to_string(), |o| o.to_string())
+}
+
+impl fmt::Display for Call {
+    fn fmt(&self, f: &mut fmt::Formatter) -> fmt::Result {
+        let table_or_kept = |table: &Option<Vec<u8>>| own_or_kept(&table.as_deref().map(Hex));
+        match self {
+            Call::Fresh { framing } => write!(f, "fresh framing {framing}"),
+            Call::Step { reader, byte } => {
+                write!(f, "step byte {byte:02X} reader: {}", own_or_kept(reader))
+            }
+            Call::Read { reader, bytes } => {
+                write!(f, "read bytes {} reader: {}", Hex(bytes), own_or_kept(reader))
+            }
+            Call::Write { message, framing, out, place } => {
+                let (message, out) = (Hex(message), Hex(out));
+                write!(f, "write message {message} framing {framing} place {place} out {out}")
+            }
+            Call::Reply { verdict, type_byte } => {
+                write!(f, "reply verdict {verdict} type {type_byte:02X}")
+            }
+            Call::Apply { table, message } => {
+                write!(f, "apply message {} table {}", Hex(message), table_or_kept(table))
+            }
+            Call::View { table } => write!(f, "view table {}", table_or_kept(table)),
+            Call::Hear { with: None, bytes } => {
+                write!(f, "hear bytes {}, reader and table: the kept ones", Hex(bytes))
+            }
+            Call::Hear { with: Some((reader, table)), bytes } => {
+                write!(f, "hear bytes {} reader: {reader} table {}", Hex(bytes), Hex(table))
+            }
+            Call::Keep { table } => write!(f, "keep table {}", Hex(table)),
+            Call::Show { .. } => write!(f, "show the kept table"),
+        }
+    }
+}
+
+impl fmt::Display for Answer {
+    fn fmt(&self, f: &mut fmt::Formatter) -> fmt::Result {
+        match self {
+            Answer::Reader(reader) => write!(f, "{reader}"),
+            Answer::Reading(reading) => write!(f, "{reading}"),
+            Answer::Written(Written { number, length, out }) => {
+                write!(f, "number {number} length {length} out {}", Hex(out))
+            }
+            Answer::Reply(number) => write!(f, "{number:02X}"),
+            Answer::Applied { number, table } => write!(f, "number {number} table {}", Hex(table)),
+            Answer::View(Overview { number, groups }) => {
+                write!(f, "number {number}")?;
+                groups.iter().try_for_each(|g| {
+                    write!(f, " {}/{} {} {:016X}", g.faulted, g.heard, g.known, g.share.to_bits())
+                })
+            }
+            Answer::Hearing { reading, reply, table } => {
+                write!(f, "reply {reply:02X} {reading} table {}", Hex(table))
+            }
+            Answer::Nothing => write!(f, "nothing"),
+            Answer::Table(table) => write!(f, "table {}", Hex(table)),
+            Answer::Beside => write!(f, "a byte beside the lent buffer was touched"),
+        }
+    }
+}

@@ -1,0 +1,188 @@
+//! Document 01's bench cards, the expected values typed from its page. They are asked of the second
+//! program itself, and of the library where there is one.
+
+use crate::calls::{Answer, Call, Library};
+use crate::reader::{Reader, Reading, NONE};
+use crate::report::report;
+use crate::table::{Group, TABLE_BYTES};
+
+const CARD_1: &[u8] = &[0x7E, 0x01, 0x1D, 0x1E, 0x1F];
+const CARD_2: &[u8] = b"\n011D1E1F\r";
+const CARD_3: &[u8] = &[0x7E, 0x07, 0x84, 0x09, 0x7D, 0x5E, 0x10, 0x58, 0x01, 0x00, 0x7C, 0xD1];
+const CARD_4: &[u8] = &[0x7E, 0x08, 0x84, 0x09, 0x7D, 0x5E, 0x10, 0x58, 0x00, 0x01, 0x00, 0x7D, 0x5D, 0x56];
+const CARD_5: &[u8] = &[0x7E, 0x0A, 0x05, 0x00, 0x01, 0x00, 0x00, 0x00, 0x00, 0x00, 0x00, 0x00, 0x10, 0xA8];
+const CARD_6: &[u8] = &[0x7E, 0x01, 0x1D, 0x1E, 0x20];
+const CARD_7: &[u8] = &[0x7E, 0x7E, 0x01, 0x1D, 0x1E, 0x1F];
+const CARD_8: &[u8] = &[0x7E, 0x01, 0x7D, 0x7E, 0x01, 0x1D, 0x1E, 0x1F];
+const CARD_13: &str = "0 05 --\n0 1D --\n1 16 1\n2 0 -9999\n3 0 -9999\n4 0 -9999\n5 0 -9999\n\
+    6 0 -9999\n7 0 -9999\n8 0 -9999\n9 0 -9999\n10 0 -9999\n11 0 -9999\n12 0 -9999\n13 0 -9999\n\
+    14 0 -9999\n15 0 -9999\n16 0 -9999\n";
+
+/// What a host hears: the verdict, its type byte, the message and the reply; then how many bytes it used.
+type Heard = (u8, u8, Vec<u8>, u8, u64);
+
+/// Everything that a fresh host hears in these bytes, unused ones handed in again; the table is kept.
+/// A last entry with no verdict says that a read without one left bytes unused.
+fn heard(library: &mut impl Library, framing: u8, bytes: &[u8]) -> Vec<Heard> {
+    let mut heard = Vec::new();
+    library.call(&Call::Fresh { framing });
+    library.call(&Call::Keep { table: vec![0; TABLE_BYTES] });
+    let mut rest = bytes;
+    while heard.len() <= bytes.len() {
+        match library.call(&Call::Hear { with: None, bytes: rest.to_vec() }) {
+            Answer::Hearing { reading: r, .. } if r.verdict == NONE && r.used == rest.len() as u64 => break,
+            Answer::Hearing { reading: r, reply, .. } => {
+                let message = r.message.iter().take(usize::from(r.length)).copied().collect();
+                heard.push((r.verdict, r.type_byte, message, reply, r.used));
+                rest = rest.get(r.used as usize..).unwrap_or(&[]);
+            }
+            _ => break,
+        }
+    }
+    heard
+}
+
+fn kept_table(library: &mut impl Library) -> Vec<u8> {
+    match library.call(&Call::Show { length: TABLE_BYTES }) {
+        Answer::Table(table) => table,
+        _ => Vec::new(),
+    }
+}
+
+fn kept_groups(library: &mut impl Library) -> Vec<Group> {
+    match library.call(&Call::View { table: None }) {
+        Answer::View(view) => view.groups.to_vec(),
+        _ => Vec::new(),
+    }
+}
+
+/// The verdict and used bytes of one read from a fresh reader.
+fn read_fresh(library: &mut impl Library, framing: u8, bytes: &[u8]) -> (u8, u64) {
+    let reader = Some(Reader::fresh(framing));
+    match library.call(&Call::Read { reader, bytes: bytes.to_vec() }) {
+        Answer::Reading(Reading { verdict, used, .. }) => (verdict, used),
+        _ => (NONE, 0),
+    }
+}
+
+fn written(
+    library: &mut impl Library,
+    message: &[u8],
+    framing: u8,
+    room: usize,
+    place: u64,
+) -> (u8, u64, Vec<u8>) {
+    let call = Call::Write { message: message.to_vec(), framing, out: vec![0xEE; room], place };
+    match library.call(&call) {
+        Answer::Written(w) => (w.number, w.length, w.out),
+        _ => (NONE, 0, Vec::new()),
+    }
+}
+
+fn good(message: &[u8], reply: u8, used: usize) -> Heard {
+    (0, message[0], message.to_vec(), reply, used as u64)
+}
+
+fn card_4_in_the_table(library: &mut impl Library) -> bool {
+    let message = [0x84, 0x09, 0x7E, 0x10, 0x58, 0x00, 0x01, 0x00];
+    let heard = heard(library, 0, CARD_4);
+    let mut table = vec![0; TABLE_BYTES];
+    table[72..80].copy_from_slice(&[0b11, 0x7E, 0x10, 0x58, 0x00, 0x01, 0x00, 0x01]);
+    heard == [good(&message, 0x1D, 14)] && kept_table(library) == table
+}
+
+fn card_5_in_the_table(library: &mut impl Library) -> bool {
+    let message = [0x05, 0x00, 0x01, 0, 0, 0, 0, 0, 0, 0];
+    let heard = heard(library, 0, CARD_5);
+    let mut table = vec![0; TABLE_BYTES];
+    (0..16).for_each(|zone| table[8 * zone] = 1);
+    table[7] = 1;
+    let groups = kept_groups(library);
+    let others = &groups[1..16];
+    heard == [good(&message, 0, 14)]
+        && kept_table(library) == table
+        && [groups[0], groups[16]]
+            .iter()
+            .all(|g| (g.heard, g.faulted, g.known, g.share) == (16, 1, 1, 1.0 / 16.0))
+        && others.iter().all(|g| (g.heard, g.faulted, g.known) == (0, 0, 0) && g.share.is_nan())
+}
+
+/// Card 1 cut after each byte in turn: in two reads, and byte by byte.
+fn card_10(library: &mut impl Library) -> bool {
+    let mut ok = true;
+    for cut in 0..=CARD_1.len() {
+        library.call(&Call::Fresh { framing: 0 });
+        let mut verdicts = Vec::new();
+        for bytes in [&CARD_1[..cut], &CARD_1[cut..]] {
+            if let Answer::Reading(r) = library.call(&Call::Read { reader: None, bytes: bytes.to_vec() }) {
+                ok &= r.used == bytes.len() as u64;
+                verdicts
+                    .extend((r.verdict != NONE).then(|| (r.verdict, r.type_byte, r.length, r.message[0])));
+            }
+        }
+        ok &= verdicts == [(0, 0x1D, 1, 0x1D)];
+    }
+    library.call(&Call::Fresh { framing: 0 });
+    let steps: Vec<u8> = CARD_1
+        .iter()
+        .filter_map(|&byte| match library.call(&Call::Step { reader: None, byte }) {
+            Answer::Reading(r) => Some(r.verdict),
+            _ => None,
+        })
+        .collect();
+    ok && steps == [NONE, NONE, NONE, NONE, 0]
+}
+
+fn card_11(library: &mut impl Library) -> bool {
+    let mut frame_at_3 = vec![0xEE; 8];
+    frame_at_3[3..].copy_from_slice(CARD_1);
+    written(library, &[0x1D], 0, 8, 3) == (0, 5, frame_at_3)
+        && written(library, &[0x1D], 0, 7, 3) == (9, 0, vec![0xEE; 7])
+}
+
+fn card_12(library: &mut impl Library) -> bool {
+    let frame_240 = [0x7E, 0x02, 0x25, 0xF0, 0x18, 0x41];
+    let frame_241 = [0x7E, 0x02, 0x25, 0xF1, 0x19, 0x42];
+    written(library, &[0x25, 240], 0, 6, 0) == (0, 6, frame_240.to_vec())
+        && written(library, &[0x25, 241], 0, 6, 0).0 == 8
+        && heard(library, 0, &frame_240) == [good(&[0x25, 240], 0x1F, 6)]
+        && heard(library, 0, &frame_241) == [(8, 0x25, vec![], 0x1F, 6)]
+}
+
+/// Each card's name, and whether the library answers as the card says.
+pub fn cards(library: &mut impl Library) -> Vec<(&'static str, bool)> {
+    let card_1 = good(&[0x1D], 0, 5);
+    vec![
+        ("card 1: 0, no reply", heard(library, 0, CARD_1) == [card_1.clone()]),
+        ("card 1 written", written(library, &[0x1D], 0, 5, 0) == (0, 5, CARD_1.to_vec())),
+        ("card 2: the same in ASCII", heard(library, 1, CARD_2) == [good(&[0x1D], 0, 10)]),
+        ("card 2 written", written(library, &[0x1D], 1, 10, 0) == (0, 10, CARD_2.to_vec())),
+        ("card 3: 7, reply 1E", heard(library, 0, CARD_3) == [(7, 0x84, vec![], 0x1E, 12)]),
+        ("card 4: 0, reply 1D, zone 10 short flags 1", card_4_in_the_table(library)),
+        (
+            "card 4 written",
+            written(library, &[0x84, 0x09, 0x7E, 0x10, 0x58, 0x00, 0x01, 0x00], 0, 14, 0)
+                == (0, 14, CARD_4.to_vec()),
+        ),
+        ("card 5: 0, zones 1-16 heard, zone 1 faulted", card_5_in_the_table(library)),
+        ("card 6: 5, reply 1E", heard(library, 0, CARD_6) == [(5, 0, vec![], 0x1E, 5)]),
+        ("card 7: 1, then 0", heard(library, 0, CARD_7) == [(1, 0, vec![], 0x1E, 2), good(&[0x1D], 0, 4)]),
+        ("card 8: 1, then 0", heard(library, 0, CARD_8) == [(1, 0, vec![], 0x1E, 4), good(&[0x1D], 0, 4)]),
+        ("card 9: 7E 00 is 4", read_fresh(library, 0, &[0x7E, 0x00]) == (4, 2)),
+        ("card 9: 7E 12 is nothing yet", read_fresh(library, 0, &[0x7E, 0x12]) == (NONE, 2)),
+        ("card 9: 7E 13 is 4", read_fresh(library, 0, &[0x7E, 0x13]) == (4, 2)),
+        ("card 10: card 1 cut after each byte in turn", card_10(library)),
+        ("card 11: card 1 at place 3 of 8 and of 7 bytes", card_11(library)),
+        ("card 12: offset 240 in 25h passes, 241 gives 8", card_12(library)),
+    ]
+}
+
+/// Card 13's capture, and its report.
+pub fn card_13() -> (Vec<u8>, &'static str) {
+    ([CARD_5, CARD_1].concat(), CARD_13)
+}
+
+pub fn card_13_is_reported() -> bool {
+    let (capture, text) = card_13();
+    report(&capture) == text
+}

@@ -1,0 +1,92 @@
+//! What must hold of the second program's own answers, beside the cards.
+
+use crate::calls::{Answer, Call, Library, Second};
+use crate::made::{self, Chance};
+use crate::messages::{sums, sums_in_eight_bits, verdict_of, LENGTHS};
+use crate::parts::{frame, verdicts, Ascii, Binary, Framing, Judged};
+use crate::reader::NONE;
+use crate::writer::write;
+use crate::Tally;
+
+/// Document 003's worked zone status: its sums.
+fn worked_example() -> bool {
+    let message = [0x84, 0x09, 0x7E, 0x10, 0x58, 0x01, 0x00];
+    let ascii = b"\n0784097E105801007CD1\r";
+    sums(&[0x07, 0x84, 0x09, 0x7E, 0x10, 0x58, 0x01, 0x00]) == (0x7C, 0xD1)
+        && frame(Ascii, &message) == ascii
+        && frame(Binary, &message) == [0x7E, 0x07, 0x84, 0x09, 0x7D, 0x5E, 0x10, 0x58, 0x01, 0x00, 0x7C, 0xD1]
+        && verdicts(Ascii, ascii).map(|j| (j.verdict, j.type_byte)).eq([(7, Some(0x84))])
+}
+
+fn sums_are_the_pseudo_code(chance: &mut Chance) -> bool {
+    (0..20_000).all(|k| {
+        let bytes = made::bytes(chance, k % 40);
+        sums(&bytes) == sums_in_eight_bits(&bytes)
+    })
+}
+
+/// The table of 41 says what document 01's list says: its numbers and their total length.
+fn lengths_add_up() -> bool {
+    LENGTHS.windows(2).all(|pair| pair[0].0 < pair[1].0)
+        && LENGTHS.iter().map(|row| row.1).sum::<usize>() == 226
+        && LENGTHS.iter().all(|row| row.0 < 64)
+}
+
+/// A written frame has at most 41 or 44 bytes, and gives its message back, after noise too.
+fn frames_are_read_back(chance: &mut Chance) -> bool {
+    (0..20_000).all(|k| {
+        let framing = [Binary, Ascii][k % 2];
+        let message = made::some_good_message(chance);
+        let written = write(&message, (k % 2) as u8, &[0; 44], 0);
+        let line = &written.out[..written.length as usize];
+        let noise_length = chance.below(40);
+        let stream = [made::bytes(chance, noise_length), line.to_vec()].concat();
+        let last = verdicts(framing, &stream).last();
+        verdict_of(&message) == 0
+            && written.number == 0
+            && line.len() <= [41, 44][k % 2]
+            && last.map_or(false, |j| (j.verdict, j.message) == (0, message))
+    })
+}
+
+/// The verdicts of a stream that is read in cuts, unused bytes handed in again.
+fn verdicts_in_cuts(chance: &mut Chance, framing: Framing, stream: &[u8]) -> Vec<Judged> {
+    let mut second = Second::new();
+    let mut judged = Vec::new();
+    second.call(&Call::Fresh { framing: u8::from(framing == Ascii) });
+    let (mut at, mut end) = (0, 0);
+    while at < stream.len() {
+        end = stream.len().min(end + chance.below(9));
+        let bytes = stream[at..end].to_vec();
+        if let Answer::Reading(r) = second.call(&Call::Read { reader: None, bytes }) {
+            at += r.used as usize;
+            if r.verdict != NONE {
+                let carries = matches!(r.verdict, 0 | 6..=8);
+                judged.push(Judged {
+                    verdict: r.verdict,
+                    at: at - 1,
+                    type_byte: if carries { Some(r.type_byte) } else { None },
+                    message: r.message[..usize::from(r.length)].to_vec(),
+                });
+            }
+        }
+    }
+    judged
+}
+
+fn cuts_do_not_matter(chance: &mut Chance) -> bool {
+    (0..3_000).all(|_| {
+        let framing = chance.framing();
+        let stream = made::stream(chance, framing, 6);
+        let whole: Vec<Judged> = verdicts(framing, &stream).collect();
+        verdicts_in_cuts(chance, framing, &stream) == whole
+    })
+}
+
+pub fn run(chance: &mut Chance, tally: &mut Tally) {
+    tally.note("document 003's worked example", worked_example());
+    tally.note("sums are those of document 003's pseudo-code", sums_are_the_pseudo_code(chance));
+    tally.note("41 lengths", lengths_add_up());
+    tally.note("written frames are read back", frames_are_read_back(chance));
+    tally.note("cuts do not matter", cuts_do_not_matter(chance));
+}

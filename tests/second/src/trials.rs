@@ -1,0 +1,294 @@
+//! The trials of the library: made calls, each of which the second program answers too.
+
+use crate::calls::{Answer, Call};
+use crate::counts::GOOD_FRAMES;
+use crate::driver::Calls;
+use crate::made::{self, Chance};
+use crate::messages::{LENGTHS, LONGEST};
+use crate::parts::{frame, Ascii, Binary, Framing};
+use crate::reader::{framing_of, Reader, NONE};
+use crate::table::TABLE_BYTES;
+
+/// A trial makes its calls: all there are, or as many as it is given.
+pub struct Trial {
+    pub name: &'static str,
+    /// Of every hundred calls that are not fixed in number; 0 for a trial that is.
+    pub share: u64,
+    pub make: fn(&mut Chance, &mut Calls, u64),
+}
+
+pub const TRIALS: [Trial; 12] = [
+    Trial { name: "reply: all 65,536 pairs", share: 0, make: all_replies },
+    Trial { name: "every type byte at every length", share: 0, make: all_types_and_lengths },
+    Trial { name: "every value of every byte of every message", share: 0, make: all_values },
+    Trial { name: "X-10: every function with units", share: 0, make: all_x10 },
+    Trial { name: "good frames of every number", share: 0, make: good_frames },
+    Trial { name: "readers at every edge of held", share: 0, make: edge_readers },
+    Trial { name: "streams cut at random, read and step", share: 40, make: cut_streams },
+    Trial { name: "streams cut at random, hear", share: 20, make: heard_streams },
+    Trial { name: "readers of any kind", share: 15, make: any_readers },
+    Trial { name: "write around the edges of the buffer", share: 15, make: edge_writes },
+    Trial { name: "apply to any table", share: 6, make: any_applies },
+    Trial { name: "view of any table", share: 4, make: any_views },
+];
+
+const FRAMINGS: [Framing; 2] = [Binary, Ascii];
+
+fn number(framing: Framing) -> u8 {
+    u8::from(framing == Ascii)
+}
+
+fn all_replies(_: &mut Chance, calls: &mut Calls, _: u64) {
+    for pair in 0..=u16::MAX {
+        let [verdict, type_byte] = pair.to_be_bytes();
+        calls.call(Call::Reply { verdict, type_byte });
+    }
+}
+
+/// One message through the writer, the reader and the table.
+fn all_ways(calls: &mut Calls, framing: Framing, message: &[u8]) {
+    let line = frame(framing, message);
+    let out = vec![0x5A; line.len()];
+    calls.call(Call::Write { message: message.to_vec(), framing: number(framing), out, place: 0 });
+    calls.call(Call::Read { reader: Some(Reader::fresh(number(framing))), bytes: line });
+    calls.call(Call::Apply { table: None, message: message.to_vec() });
+}
+
+fn fresh_table(calls: &mut Calls) {
+    calls.call(Call::Keep { table: vec![0; TABLE_BYTES] });
+}
+
+fn show_table(calls: &mut Calls) {
+    calls.call(Call::Show { length: TABLE_BYTES });
+}
+
+fn all_types_and_lengths(_: &mut Chance, calls: &mut Calls, _: u64) {
+    fresh_table(calls);
+    for type_byte in 0..=255 {
+        for length in 0..=LONGEST + 2 {
+            let mut message = vec![0; length];
+            message.iter_mut().take(1).for_each(|b| *b = type_byte);
+            FRAMINGS.iter().for_each(|&framing| all_ways(calls, framing, &message));
+        }
+    }
+    show_table(calls);
+}
+
+fn all_values(chance: &mut Chance, calls: &mut Calls, _: u64) {
+    fresh_table(calls);
+    for (number, length) in LENGTHS {
+        for place in 1..length {
+            for value in 0..=255 {
+                let mut message = made::good_message(chance, number);
+                message[place] = value;
+                all_ways(calls, chance.framing(), &message);
+            }
+        }
+        show_table(calls);
+    }
+}
+
+fn all_x10(chance: &mut Chance, calls: &mut Calls, _: u64) {
+    fresh_table(calls);
+    for number in [0x09, 0x29] {
+        for function in 0..=255 {
+            for unit in [0, 14, 15, 16, 255] {
+                for house in [15, 16] {
+                    all_ways(calls, chance.framing(), &[number, house, unit, function]);
+                }
+            }
+        }
+    }
+    show_table(calls);
+}
+
+fn good_frames(chance: &mut Chance, calls: &mut Calls, _: u64) {
+    for framing in FRAMINGS {
+        for (number, _) in LENGTHS {
+            fresh_table(calls);
+            calls.call(Call::Fresh { framing: self::number(framing) });
+            for _ in 0..GOOD_FRAMES {
+                let message = made::good_message(chance, number);
+                let line = frame(framing, &message);
+                let (room, place) = (line.len() + chance.below(4), chance.below(3) as u64);
+                let out = made::bytes(chance, room);
+                let framing = chance.framing_number(framing);
+                calls.call(Call::Write { message, framing, out, place });
+                calls.call(Call::Hear { with: None, bytes: line.clone() });
+                calls.call(Call::Read { reader: Some(Reader::fresh(framing)), bytes: line });
+            }
+            show_table(calls);
+            calls.call(Call::View { table: None });
+        }
+    }
+}
+
+/// Every length, every count held around its bound, every mode; then a byte of each telling kind.
+fn edge_readers(_: &mut Chance, calls: &mut Calls, _: u64) {
+    for framing in [0, 1, 2] {
+        for length in [0, 1, 2, 10, 17, 18, 19, 20, 255] {
+            for held in (0..=u16::from(length).min(20) + 4).chain([22, 256, 65_535]) {
+                for (mode, digit) in
+                    [(0, 0), (0, 99), (1, 0), (2, 0), (3, 0), (3, 15), (3, 16), (4, 0), (255, 0)]
+                {
+                    let mut bytes = [0x30; LONGEST + 3];
+                    bytes[0] = length;
+                    let reader = Reader { framing, mode, digit, held, bytes };
+                    calls.call(Call::Read { reader: Some(reader.clone()), bytes: vec![] });
+                    for byte in [0x0A, 0x0D, 0x30, 0x46, 0x47, 0x5E, 0x7D, 0x7E] {
+                        calls.call(Call::Step { reader: Some(reader.clone()), byte });
+                    }
+                }
+            }
+        }
+    }
+}
+
+/// Lengths of reads: often a byte or none, at times the rest of the stream.
+fn read_length(chance: &mut Chance, rest: usize) -> usize {
+    let wanted = match chance.below(6) {
+        0 => 1,
+        1 => 0,
+        2 => rest,
+        _ => 1 + chance.below(24),
+    };
+    wanted.min(rest)
+}
+
+/// Hands a stream to calls of any length; what a call leaves is handed in again, alone or with more.
+fn in_reads(chance: &mut Chance, stream: &[u8], mut call: impl FnMut(&mut Chance, &[u8]) -> Answer) {
+    let (mut at, mut end) = (0, 0);
+    while at < stream.len() || end < stream.len() {
+        end += read_length(chance, stream.len() - end);
+        loop {
+            let reading = match call(chance, &stream[at..end]) {
+                Answer::Reading(reading) | Answer::Hearing { reading, .. } => reading,
+                _ => return,
+            };
+            at += reading.used as usize;
+            if reading.verdict == NONE || chance.one_in(4) {
+                break;
+            }
+        }
+    }
+}
+
+fn cut_streams(chance: &mut Chance, calls: &mut Calls, budget: u64) {
+    while calls.made < budget {
+        let framing = chance.framing();
+        let pieces = 1 + chance.below(12);
+        let mut stream = made::stream(chance, framing, pieces);
+        calls.call(Call::Fresh { framing: chance.framing_number(framing) });
+        if chance.one_in(1000) {
+            stream.extend(made::long_noise(chance, framing));
+            stream.extend(made::stream(chance, framing, pieces));
+        }
+        if stream.len() < 1000 && chance.one_in(4) {
+            for &byte in &stream {
+                calls.call(Call::Step { reader: None, byte });
+            }
+        } else {
+            in_reads(chance, &stream, |chance, bytes| {
+                if bytes.len() == 1 && chance.one_in(2) {
+                    calls.call(Call::Step { reader: None, byte: bytes[0] })
+                } else {
+                    calls.call(Call::Read { reader: None, bytes: bytes.to_vec() })
+                }
+            });
+        }
+    }
+}
+
+fn heard_streams(chance: &mut Chance, calls: &mut Calls, budget: u64) {
+    while calls.made < budget {
+        let framing = chance.framing();
+        let table = if chance.one_in(4) { made::table(chance) } else { vec![0; TABLE_BYTES] };
+        calls.call(Call::Keep { table });
+        calls.call(Call::Fresh { framing: chance.framing_number(framing) });
+        for _ in 0..20 {
+            let mut stream = made::piece(chance, framing);
+            stream.extend(frame(framing, &made::table_message(chance)));
+            in_reads(chance, &stream, |_, bytes| {
+                calls.call(Call::Hear { with: None, bytes: bytes.to_vec() })
+            });
+        }
+        show_table(calls);
+        calls.call(Call::View { table: None });
+    }
+}
+
+fn any_readers(chance: &mut Chance, calls: &mut Calls, budget: u64) {
+    while calls.made < budget {
+        let (reader, mut bytes) = match chance.below(4) {
+            0 => made::reader_and_rest(chance),
+            _ => {
+                let length = chance.below(48);
+                (made::reader(chance), made::bytes(chance, length))
+            }
+        };
+        if chance.one_in(3) {
+            bytes.extend(made::piece(chance, framing_of(reader.framing)));
+        }
+        match chance.below(16) {
+            0 => {
+                let table = if chance.one_in(3) { made::no_table(chance) } else { made::table(chance) };
+                calls.call(Call::Hear { with: Some((reader, table)), bytes });
+            }
+            1..=4 => {
+                calls.call(Call::Step { reader: Some(reader), byte: made::byte(chance) });
+            }
+            _ => {
+                calls.call(Call::Read { reader: Some(reader), bytes });
+            }
+        }
+    }
+}
+
+fn edge_writes(chance: &mut Chance, calls: &mut Calls, budget: u64) {
+    while calls.made < budget {
+        let framing = chance.framing();
+        let message = match chance.below(4) {
+            0 => made::doubtful_message(chance),
+            _ => made::some_good_message(chance),
+        };
+        let length = frame(framing, &message).len();
+        let place = match chance.below(8) {
+            0 => chance.of(&[u64::MAX, u64::MAX - 1, u64::MAX - length as u64 + 1, 1 << 63, 1 << 32]),
+            1 | 2 => 0,
+            _ => chance.below(60) as u64,
+        };
+        let around = (place.min(100) as usize + length + chance.below(3)).saturating_sub(1);
+        let room = match chance.below(4) {
+            0 => chance.below(64),
+            1 => chance.of(&[0, 1, length, (place % 100) as usize]),
+            _ => around,
+        };
+        let out = made::bytes(chance, room);
+        calls.call(Call::Write { message, framing: chance.framing_number(framing), out, place });
+    }
+}
+
+fn any_applies(chance: &mut Chance, calls: &mut Calls, budget: u64) {
+    while calls.made < budget {
+        let message = match chance.below(4) {
+            0 => made::some_good_message(chance),
+            1 => made::doubtful_message(chance),
+            _ => made::table_message(chance),
+        };
+        let table = match chance.below(12) {
+            0 => made::no_table(chance),
+            _ => made::table(chance),
+        };
+        calls.call(Call::Apply { table: Some(table), message });
+    }
+}
+
+fn any_views(chance: &mut Chance, calls: &mut Calls, budget: u64) {
+    while calls.made < budget {
+        let table = match chance.below(12) {
+            0 => made::no_table(chance),
+            _ => made::table(chance),
+        };
+        calls.call(Call::View { table: Some(table) });
+    }
+}
