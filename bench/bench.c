@@ -118,12 +118,17 @@ static void measure(const char *what, const char *unit, uint64_t (*loop)(size_t)
     printf("%s, ns a %s\t%.4f\t%016llx\n", what, unit, runs[RUNS / 2], (unsigned long long)sum);
 }
 
-int main(void)
+/* With the word `capture`: the largest capture that nxread reads, every 100th byte of it another. */
+int main(int count, char **words)
 {
     capture = malloc(CAPTURE);
     long_capture = malloc(LONG_CAPTURE);
     if (!capture || !long_capture)
         return 1;
+    if (count > 1 && strcmp(words[1], "capture") == 0) {
+        make_capture(0, capture, CAPTURE, 100);
+        return fwrite(capture, 1, CAPTURE, stdout) != CAPTURE;
+    }
     mixed = make_messages(-1);
     zone_status = make_messages(0);
     zones_snapshot = make_messages(1);

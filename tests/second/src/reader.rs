@@ -89,13 +89,13 @@ impl Reader {
         line
     }
 
-    /// The reader after bytes on the line that have no verdict.
-    fn after(framing: Framing, line: &[u8]) -> Reader {
-        let begin = match line.iter().position(|&b| b == start(framing)) {
-            None => return Reader::holding(framing, SKIPPING, 0, &[]),
-            Some(begin) => begin,
-        };
-        let part = &line[begin..];
+    /// A reader that skips keeps what it holds until a start comes.
+    fn still_skipping(&self) -> Reader {
+        Reader { framing: u8::from(self.framing != 0), digit: 0, ..self.clone() }
+    }
+
+    /// The reader after a part, up to where it was heard, that has no verdict.
+    fn after(framing: Framing, part: &[u8]) -> Reader {
         match framing {
             Binary => {
                 let (recovered, open) = unstuffed(part);
@@ -113,14 +113,11 @@ impl Reader {
         }
     }
 
-    /// Whether an answered reader is the same one as this expected reader. A reader that skips may
-    /// still hold bytes, as long as it is sound; bytes beyond those held do not count.
+    /// Whether an answered reader is the same one as this expected reader. Bytes beyond those held do
+    /// not count.
     pub fn is_met_by(&self, answered: &Reader) -> bool {
-        let held = usize::from(self.held);
+        let held = usize::from(self.held).min(self.bytes.len());
         let same = (self.framing, self.mode, self.digit) == (answered.framing, answered.mode, answered.digit);
-        if self.mode == SKIPPING {
-            return same && answered.is_sound();
-        }
         same && self.held == answered.held && self.bytes[..held] == answered.bytes[..held]
     }
 }
@@ -150,7 +147,10 @@ pub fn read(reader: &Reader, bytes: &[u8]) -> Reading {
     let mut message = [0; LONGEST];
     match first {
         None => Reading {
-            reader: Reader::after(framing, &line),
+            reader: match line.iter().position(|&b| b == start(framing)) {
+                None => reader.still_skipping(),
+                Some(begin) => Reader::after(framing, &line[begin..]),
+            },
             used: bytes.len() as u64,
             verdict: NONE,
             type_byte: 0,
