@@ -9,25 +9,31 @@ use mathlib.Core.List.{List, [], _∷_, _++_, map}
 use lib.Dec.{eqb}
 use lib.ListN.{length, getD, take, drop, set, length-append, take-append-drop, drop-of-length-le}
 use lib.Seq.{length-take-le, drop-cons, append-snoc, set-split}
+use borrow.Author.Tests.{eqb-false}
+use Rattle.standard.specs.declared.Framing.{Framing}
 use Rattle.standard.specs.declared.Verdict.{Verdict}
 use Rattle.standard.specs.declared.Said.{Said}
 use Rattle.standard.specs.declared.Said.the-variants.{Silent, Gave}
 use Rattle.standard.specs.Words.{laid}
 use Rattle.standard.specs.Messages.{longest, lengthOk}
+use Rattle.standard.specs.Framing.{startOf}
 use Rattle.standard.specs.Judge.{Handed, handing, verdictFor, verdictsIn}
+use Rattle.standard.specs.Stream.{upToStart}
+use Rattle.reader.specs.declared.Mode.{Mode}
+use Rattle.reader.specs.declared.Mode.the-variants.{Skipping, Open, Escape, Digit}
 use Rattle.reader.specs.declared.Outcome.{Outcome}
 use Rattle.reader.specs.declared.Outcome.the-variants.{Nothing, Number, Judgement}
 use Rattle.reader.specs.declared.Decision.{Decision}
 use Rattle.reader.specs.declared.Reader.{Reader}
-use Rattle.reader.specs.Step.{Step, beyondLength, stepOf}
+use Rattle.reader.specs.Step.{Step, beyondLength, goes, stepOf}
 use Rattle.reader.specs.Read.{readOn, scanOf, stateOf, soundReader, Answer, notSound, readFrom, readOf, Reads}
-use Rattle.reader.specs.Decide.{stepIn, judgedOf, keptBy, heldBy, saidBy, Bound, Done, Complete}
+use Rattle.reader.specs.Decide.{stepIn, judgedOf, keptBy, heldBy, saidBy, Bound, Done, Complete, skippedIn}
 use Rattle.reader.proofs.Soundness.{Few, reader-fits, sound-held}
 use Rattle.reader.proofs.Frames.{length-snoc, by-test, whole-front}
 use Rattle.reader.proofs.Kept.{keeps-step}
 use Rattle.reader.proofs.Arrays.{laid-front, read-sound, read-unsound, sound-read, Whole, whole-read, read-none, thenRead, read-steps}
 use Rattle.reader.proofs.Handing.{handed-from-verdict}
-use Rattle.reader.proofs.CodeSteps.{all-held}
+use Rattle.reader.proofs.CodeSteps.{all-held, no-start}
 
 -- ---- the array
 
@@ -208,6 +214,36 @@ reads-judged {r} {bs} {i} {now} {d} t o v e =
     let front : judgedOf (storedBy d now) ≡ judgedOf (frame t) = rw (begins t) (judged-front (frame t) (drop (length (frame t)) (now .bytes)) (sums-held t o)) in
     reads r bs (record { reader = readerBy d now; used = i + 1; said = h ∷ [] }) (Gave v) (verdict-here t h (rw (o, front))) (ap (λ x. x ∷ []) e)
 
--- before the loop
-pub left-all : (r : Reader) (bs : List ℕ) → Left r bs 0 r
+-- ---- before the loop
+
+left-all : (r : Reader) (bs : List ℕ) → Left r bs 0 r
 left-all r bs = rw (zero-add (readOf r bs .used))
+
+module _ (r : Reader) (f : Framing) (m : r .mode ≡ Skipping f) (sound : soundReader r ≡ true) where
+  -- a byte between frames that is no start
+  skip-one : (b : ℕ) (bs : List ℕ) → (b ≡ startOf f → ⊥)
+      → readOf r (b ∷ bs) ≡ record { reader = readOf r bs .reader; used = suc (readOf r bs .used); said = readOf r bs .said }
+  unfolding scanOf
+  skip-one b bs other =
+      let held = take (r .held) (r .bytes) in
+      let stays : stepOf (stateOf r) b ≡ goes (r .mode) held = rw m (no-start (Skipping f) held b other) in
+      rw (read-sound r (b ∷ bs) sound, read-sound r bs sound, stays)
+
+  left-skipping : (bs : List ℕ) → Left r bs (length (upToStart (startOf f) bs)) r
+  left-skipping [] = left-all r []
+  left-skipping (b ∷ bs) =
+      let x = startOf f in
+      let n = length (upToStart x bs) in
+      let more : suc (n + readOf r (drop n bs) .used) ≡ suc n + readOf r (drop n bs) .used = omega arith in
+      by-test (λ l. Left r (b ∷ bs) (length l) r) (eqb b x) [] (b ∷ upToStart x bs)
+      (λ e. left-all r (b ∷ bs)) (λ e. skip-one b bs (eqb-false b x e) ∙ rw (left-skipping bs, more))
+
+-- nothing is said of what is skipped, and it leaves the reader as it is
+pub left-skipped : (r : Reader) (bs : List ℕ) → soundReader r ≡ true → Left r bs (skippedIn (r .mode) bs) r
+left-skipped r bs sound = by-mode (r .mode) refl
+  where
+    by-mode : (m : Mode) → r .mode ≡ m → Left r bs (skippedIn m bs) r
+    by-mode (Skipping f) e = left-skipping r f e sound bs
+    by-mode (Open f) e = left-all r bs
+    by-mode Escape e = left-all r bs
+    by-mode (Digit d) e = left-all r bs

@@ -14,5 +14,6 @@ pub mod Used
 pub mod Unique
 pub mod CodeSteps
 pub mod CodeJudge
+pub mod CodeSkip
 pub mod CodeLoop
 pub mod Short

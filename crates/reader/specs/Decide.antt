@@ -6,12 +6,14 @@ use mathlib.Core.Bool.{Bool, true, false, cond}
 use mathlib.Core.Option.{Option, none, some}
 use mathlib.Core.List.{List, [], _∷_, _++_}
 use lib.Dec.{eqb}
-use lib.ListN.{length, getD, drop}
+use lib.ListN.{length, getD, take, drop}
 use Rattle.standard.specs.declared.Framing.{Framing}
-use Rattle.standard.specs.Messages.{lengthOk}
-use Rattle.standard.specs.Framing.{valueOf}
+use Rattle.standard.specs.Messages.{lengthOk, among}
+use Rattle.standard.specs.Framing.{startOf, valueOf}
 use Rattle.standard.specs.Judge.{Handed, handing, wholeOf}
+use Rattle.standard.specs.Stream.{upToStart}
 use Rattle.reader.specs.declared.Mode.{Mode}
+use Rattle.reader.specs.declared.Mode.the-variants.{Skipping, Open, Escape, Digit}
 use Rattle.reader.specs.declared.Outcome.{Outcome}
 use Rattle.reader.specs.declared.Outcome.the-variants.{Nothing, Number, Judgement}
 use Rattle.reader.specs.declared.Decision.{Decision}
@@ -105,3 +107,17 @@ Entry (some d) x = (x ≡ d) × (x < 16)
 pub record Digits (table : List ℕ) : Type 0 where
   pub sized : length table ≡ 256
   pub entry : (b : ℕ) → b < 256 → Entry (valueOf b) (getD table b 0)
+
+-- ---- what is skipped
+
+-- how many bytes a read passes over before it decides on one: "everything up to the next start"
+abbrev pub skippedIn : Mode → List ℕ → ℕ
+skippedIn (Skipping f) bytes = length (upToStart (startOf f) bytes)
+skippedIn (Open f) bytes = 0
+skippedIn Escape bytes = 0
+skippedIn (Digit d) bytes = 0
+
+-- no start is among the first n bytes
+pub record Passed (start n : ℕ) (bytes : List ℕ) : Type 0 where
+  pub within : n ≤ length bytes
+  pub no-start : among start (take n bytes) ≡ false

@@ -4,14 +4,16 @@ ghost use mathlib.Core.Path.{_≡_};
 ghost use mathlib.Core.Bool.{true};
 ghost use mathlib.Core.List.{[], _∷_, _++_};
 ghost use Prim.Native.Nat.{_+_, _≤_};
+ghost use lib.ListN.{length};
 ghost use Rattle.standard.specs.declared.Framing.the-variants.{Binary, Ascii};
-ghost use Rattle.standard.specs.Messages.{longest, lengthOk};
+ghost use Rattle.standard.specs.Messages.{longest, lengthOk, among};
 ghost use Rattle.standard.specs.Framing.{startOf};
 ghost use Rattle.standard.specs.Judge.{handing, verdictFor};
+ghost use Rattle.standard.specs.Stream.{upToStart};
 ghost use Rattle.reader.specs.declared.Mode.the-variants.{Skipping, Open, Escape, Digit};
 ghost use Rattle.reader.specs.Step.{beyondLength, pendingOk, soundWith, goes, takes};
 ghost use Rattle.reader.specs.Read.{soundReader, freshReader, Reads, Steps};
-ghost use Rattle.reader.specs.Decide.{stepIn, opensIn, tells, judgedOf, Always, Counted, Decides, Judges, Complete, Digits};
+ghost use Rattle.reader.specs.Decide.{stepIn, opensIn, tells, judgedOf, skippedIn, Always, Counted, Decides, Judges, Complete, Digits, Passed};
 
 mod digits;
 
@@ -25,6 +27,9 @@ const LONGEST: u8 = 18;
 
 // The most recovered bytes: the length, the longest message and two sums.
 const MOST: usize = LONGEST as usize + 3;
+
+// So many bytes between frames are looked at together: as many as a vector register holds.
+const BLOCK: usize = 16;
 
 // Between frames, in a frame, after a 7Dh (binary), or with a high digit pending (ASCII).
 pub enum Mode {
@@ -65,13 +70,14 @@ enum Outcome {
 // What a byte decides from the number of bytes held and the first of them: the mode and how many
 // are held after it, whether a byte of the frame is kept and which, and the outcome with a
 // verdict's number. What is not used is 0. The array stays with the loop, which would be many times
-// slower if every decision handed it on; for the same reason no case of an enum holds the numbers.
+// slower if every decision handed it on; for the same reason no case of an enum holds the numbers,
+// and the fields stand in this order.
 struct Decision {
-    mode: Mode,
-    held: usize,
     keep: bool,
-    byte: u8,
+    mode: Mode,
     outcome: Outcome,
+    held: usize,
+    byte: u8,
     number: u8,
 }
 
@@ -399,6 +405,64 @@ fn digit_table() -> [u8; 256]
     DIGITS
 }
 
+// Whether a start is among these bytes. All are looked at: with no way out of the loop many are
+// compared at once.
+fn has_start(part: &[u8], start: u8) -> bool
+    ensures { λ r. ⌜ r ≡ among start (now (part .entry)) ⌝ }
+{
+    let mut found = false;
+    let mut i = 0;
+    while i < part.len() {
+        if part[i] == start {
+            found = true;
+        }
+        i += 1;
+    }
+    found
+}
+
+// Past the blocks with no start among them, as far as whole blocks go.
+fn skip_blocks(bytes: &[u8], start: u8) -> usize
+    ensures { λ r. ⌜ Passed start r (now (bytes .entry)) ⌝ }
+{
+    let mut i = 0;
+    while BLOCK <= bytes.len() - i {
+        let end = i + BLOCK;
+        if has_start(&bytes[i..end], start) {
+            return i;
+        }
+        i = end;
+    }
+    i
+}
+
+// How many bytes stand before the first start.
+fn before_start(bytes: &[u8], start: u8) -> usize
+    ensures { λ r. ⌜ r ≡ length (upToStart start (now (bytes .entry))) ⌝ }
+{
+    let mut i = skip_blocks(bytes, start);
+    while i < bytes.len() {
+        if bytes[i] == start {
+            return i;
+        }
+        i += 1;
+    }
+    i
+}
+
+// "After a verdict everything up to the next start is skipped; bytes before the first start give
+// nothing": a read passes over them before it decides on one.
+fn skipped(mode: Mode, bytes: &[u8]) -> usize
+    ensures { λ r. ⌜ r ≡ skippedIn mode (now (bytes .entry)) ⌝ }
+{
+    match mode {
+        Mode::Skipping(framing) => before_start(bytes, start_of(framing)),
+        Mode::Open(_) => 0,
+        Mode::Escape => 0,
+        Mode::Digit(_) => 0,
+    }
+}
+
 // What a read gives, put together.
 fn answer(mode: Mode, held: usize, bytes: [u8; MOST], used: usize, said: Said) -> Reading
     ensures { λ r. ⌜ r ≡ record { reader = record { mode = mode; held = held; bytes = bytes }; used = used; said = said } ⌝ }
@@ -426,7 +490,7 @@ pub fn read(reader: Reader, bytes: &[u8]) -> Reading
         };
     }
     let digits = digit_table();
-    let mut i = 0;
+    let mut i = skipped(mode, bytes);
     while i < bytes.len() {
         let decision = decide(mode, held, frame[0], bytes[i], &digits);
         if decision.keep {

@@ -16,7 +16,8 @@ use Rattle.reader.specs.Read.{soundReader}
 use Rattle.reader.specs.Decide.{judgedOf}
 use Rattle.reader.proofs.Soundness.{reader-fits, sound-held}
 use Rattle.reader.proofs.Arrays.{Whole}
-use Rattle.reader.proofs.CodeLoop.{first-held, Left, left-all, Turn, storedBy, room, complete, sound-after, whole-after, left-on, reads-unsound, reads-all, reads-number, reads-judged}
+use Rattle.reader.proofs.CodeSkip.{skipped-within}
+use Rattle.reader.proofs.CodeLoop.{first-held, Left, Turn, storedBy, room, complete, sound-after, whole-after, left-on, reads-unsound, reads-all, reads-number, reads-judged, left-skipped}
 use Rattle.reader.proofs.read.Statement.{statement}
 use Rattle.reader.proofs.read.Tie as tie
 
@@ -38,7 +39,7 @@ few c = omega (arith, sound-held (current c) (c .loop .inv .1), c .loop .inv .2)
 
 -- a turn of the loop, once it is decided
 turn : (c : tie.After-decide Inv-loop μ-loop)
-    → Turn (c .before .before .before .before .before .before .before .before .before .before .args .reader) (c .before .before .before .before .before .before .before .before .before .before .args .bytes .now) (c .before .before .before .before .loop .i) (current (c .before .before .before .before)) (c .decide .result)
+    → Turn (c .before .before .before .before .before .before .before .before .before .before .before .args .reader) (c .before .before .before .before .before .before .before .before .before .before .before .args .bytes .now) (c .before .before .before .before .loop .i) (current (c .before .before .before .before)) (c .decide .result)
 turn c =
     let l = c .before .before .before .before .loop in
     record {
@@ -70,11 +71,15 @@ returns c =
 digit-table-requires : tie.Need-digit-table-requires Inv-loop μ-loop
 digit-table-requires c κs = tt
 
+skipped-requires : tie.Need-skipped-requires Inv-loop μ-loop
+skipped-requires c κs = tt
+
 loop-holds : tie.Need-loop-holds Inv-loop μ-loop
 unfolding Whole
 loop-holds c =
-    let a = c .before .before .before .before .before .args in
-    (omega arith, sym (c .before .before .sound .ensures) ∙ not-false _ (c .before .if1 .left), search needs, left-all (a .reader) (a .bytes .now))
+    let a = c .before .before .before .before .before .before .args in
+    let sound = sym (c .before .before .before .sound .ensures) ∙ not-false _ (c .before .before .if1 .left) in
+    rw (c .skipped .ensures) (skipped-within (a .reader .mode) (a .bytes .now), sound, search needs, left-skipped (a .reader) (a .bytes .now) sound)
 
 array-read-decide : tie.Need-array-read-decide Inv-loop μ-loop
 unfolding Whole
@@ -90,7 +95,7 @@ decide-requires : tie.Need-decide-requires Inv-loop μ-loop
 decide-requires c κs =
     let now = current (c .before .before .before) in
     let sound = c .before .before .before .loop .inv .1 in
-    (sound-held now sound, reader-fits now sound .1, c .before .before .before .before .digit-table .ensures)
+    (sound-held now sound, reader-fits now sound .1, c .before .before .before .before .before .digit-table .ensures)
 
 array-write-frame : tie.Need-array-write-frame Inv-loop μ-loop
 unfolding Whole
@@ -164,6 +169,7 @@ read-spec =
     plain-requires
     returns
     digit-table-requires
+    skipped-requires
     loop-holds
     array-read-decide
     shared-slice-read-decide
