@@ -14,27 +14,13 @@ use Rattle.standard.specs.declared.Framing.the-variants.{Ascii}
 use Rattle.standard.specs.Messages.{lengthOk}
 use Rattle.standard.specs.Framing.{valueOf, digitsOf, pairs, noDigit}
 use Rattle.standard.specs.Judge.{handing, decided, unfinished, plain, wholeOf, atStop, ended, frameJudged, judgeAfter}
+use Rattle.standard.proofs.Framings.{digit-value}
 use Rattle.reader.specs.declared.Mode.{Mode}
 use Rattle.reader.specs.declared.Mode.the-variants.{Open, Digit}
 use Rattle.reader.specs.Step.{framingOf, goes, ends, takes, takesDigit, goesOn}
 use Rattle.reader.proofs.Soundness.{Few, Fits, few-held}
 use Rattle.reader.proofs.Frames.{length-snoc, by-test, frame-bad, frame-short, frame-full, frame-end, whole-front, whole-stands, whole-sheet}
 use Rattle.reader.proofs.Judging.{andPending, spent, endFrom, spelt, leftOf, isOpen, On, Over, Does, on, over}
-
--- ---- the value of a digit
-
-in-range : (d x : ℕ) (t u : Bool) (o : Option ℕ) → (u ≡ true → x ≤ 15) → (o ≡ some d → d ≤ 15) → cond (t && u) (some x) o ≡ some d → d ≤ 15
-in-range d x true true o small other e = let s : x ≡ d = cc in omega (arith, small refl)
-in-range d x true false o small other e = other e
-in-range d x false u o small other e = other e
-
-digit-small : (c d : ℕ) → valueOf c ≡ some d → d ≤ 15
-digit-small c d e =
-    in-range d (c - 48) (leb 48 c) (leb c 57) (cond (leb 65 c && leb c 70) (some (c - 55)) none)
-    (λ h. omega (arith, leb-true))
-    (in-range d (c - 55) (leb 65 c) (leb c 70) none
-    (λ h. omega (arith, leb-true))
-    (λ h. let z : _≡_ {A = ℕ} 0 1 = cc in omega arith)) e
 
 -- ---- where the stop is due
 
@@ -164,7 +150,7 @@ digit-due held b few (some d) e =
       is = refl;
       framing = refl;
       grown = omega arith;
-      fits = λ k. (few (k .0), le-leb d 15 (digit-small b d e));
+      fits = λ k. (few (k .0), le-leb d 15 (omega (arith, digit-value b d e .small)));
       left = λ k q. spend held none b d q (few (k .0)) e;
     } in
     on goes-on

@@ -175,8 +175,8 @@ pub first-none : (t : Bool) (n : ℕ) (tests : List (Bool × ℕ)) → (n ≡ 0 
 first-none true n tests h e = absurd (h e)
 first-none false n tests h e = (refl, e)
 
--- what stops recovering is no good verdict
-unstuff-fault : (e : Bool) (l : List ℕ) → unstuff e l .fault ≡ none
+-- recovering a binary part never stops
+pub unstuff-fault : (e : Bool) (l : List ℕ) → unstuff e l .fault ≡ none
 unfolding unstuff
 unstuff-fault e [] = refl
 unstuff-fault true (b ∷ l) = unstuff-fault false l
@@ -186,6 +186,7 @@ unstuff-fault false (b ∷ l) = go (eqb b 0x7D) (unstuff (eqb b 0x7D) l) (unstuf
     go true r h = h
     go false r h = h
 
+-- what stops recovering is no good verdict
 fault-bad : (f : Framing) (l : List ℕ) → recovered f l .fault ≡ some 0 → ⊥
 fault-bad Binary l h = let e = unstuff-fault false l in let z : _≡_ {A = ℕ} 0 1 = cc in omega arith
 fault-bad Ascii l h = go (ltb (length (digitsOf l)) (length l)) h

@@ -20,15 +20,10 @@ use Rattle.standard.specs.Stream.{upToStart, partsOf, partHands, partsHa
 use Rattle.standard.specs.Replies.{replyOf}
 use Rattle.standard.specs.Table.{fresh, tableAfter}
 use Rattle.standard.specs.Overview.{heardOf, faultedOf, groupNumbers}
+use Rattle.standard.proofs.Words.{flatMap-append}
 use Rattle.standard.proofs.Messages.{both-true}
+use Rattle.standard.proofs.Judge.{unstuff-fault}
 use Rattle.standard.specs.Report.{mostRead, decimal, typeText, replyText, minus9999, verdictLine, groupLine, reportOn, reportOf}
-
--- ---- lines after lines
-
-pub flatMap-append : {A B : Type 0} (f : A → List B) (a b : List A) → flatMap f (a ++ b) ≡ flatMap f a ++ flatMap f b
-unfolding flatMap
-flatMap-append f [] b = refl
-flatMap-append f (x ∷ a) b = ap (λ l. f x ++ l) (flatMap-append f a b) ∙ sym (append-assoc (f x) (flatMap f a) (flatMap f b))
 
 -- lines of which each has at most so many bytes
 flatMap-le : {A : Type 0} (f : A → List ℕ) (most : A → ℕ) → ((x : A) → length (f x) ≤ most x) → (l : List A)
@@ -63,23 +58,12 @@ unfolding wholeOf
 ended-sheet Binary after L rest = first-within 8 ((sumsDiffer L rest, 5) ∷ messageTests (take L rest)) refl
 ended-sheet Ascii after L rest = stop-sheet (drop (2 * (L + 3)) after) L rest
 
--- recovering a binary part never stops
-unstuff-goes : (escape : Bool) (bs : List ℕ) → unstuff escape bs .fault ≡ none
-unfolding unstuff
-unstuff-goes escape [] = refl
-unstuff-goes true (b ∷ bs) = unstuff-goes false bs
-unstuff-goes false (b ∷ bs) = by (eqb b 0x7D) (unstuff (eqb b 0x7D) bs) (unstuff-goes (eqb b 0x7D) bs)
-  where
-    by : (t : Bool) (r : Recovered) → r .fault ≡ none → cond t r (also b r) .fault ≡ none
-    by true r h = h
-    by false r h = h
-
 digits-sheet : (t : Bool) → OnSheet (stuck (cond t (some 2) none))
 digits-sheet true = omega arith
 digits-sheet false = tt
 
 fault-sheet : (f : Framing) (after : List ℕ) → OnSheet (stuck (recovered f after .fault))
-fault-sheet Binary after = rw unstuff-goes tt
+fault-sheet Binary after = rw unstuff-fault tt
 fault-sheet Ascii after = digits-sheet (ltb (length (digitsOf after)) (length after))
 
 frame-sheet : (bytes : List ℕ) (fault : Option ℕ) (end : ℕ → List ℕ → Judged) → OnSheet (stuck fault)

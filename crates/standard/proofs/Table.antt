@@ -14,7 +14,7 @@ use lib.Seq.{sets, sets-eq, getD-set-same, getD-set-other, ext-getD}
 use borrow.Author.Tests.{eq-eqb, ne-eqb, eqb-true, eqb-false}
 use Rattle.standard.specs.Words.{bit, upTo, laid}
 use Rattle.standard.specs.Table.{Write, stores, marks, done, doneAll, storesFrom}
-use Rattle.standard.proofs.Words.{upTo-more}
+use Rattle.standard.proofs.Words.{flatMap-append, upTo-more}
 
 -- ---- bits
 
@@ -176,12 +176,6 @@ pub mark-run : (place bits : ℕ) (bs t : List ℕ)
     → doneAll (marks place bits ∷ storesFrom (place + 1) bs) t ≡ sets (set t place (bitOr (getD t place 0) bits)) (place + 1) bs
 unfolding doneAll
 mark-run place bits bs t = doneAll-run (place + 1) bs (set t place (bitOr (getD t place 0) bits))
-
--- records and then more records
-flatMap-append : {A B : Type 0} (f : A → List B) (a b : List A) → flatMap f (a ++ b) ≡ flatMap f a ++ flatMap f b
-unfolding flatMap
-flatMap-append f [] b = refl
-flatMap-append f (x ∷ a) b = ap (λ l. f x ++ l) (flatMap-append f a b) ∙ sym (append-assoc (f x) (flatMap f a) (flatMap f b))
 
 -- the writes of one record more
 turns-more : (f : ℕ → List Write) (n : ℕ) → flatMap f (upTo (n + 1)) ≡ flatMap f (upTo n) ++ f n

@@ -11,8 +11,7 @@ use Rattle.standard.specs.declared.Group.{Group}
 use Rattle.standard.specs.Words.{upTo}
 use Rattle.standard.specs.Overview.{Counted, counted, heardOf, faultedOf, groupNumbers, groupValues}
 use Rattle.standard.specs.Report.{decimal, minus9999, groupLine}
-use Rattle.standard.proofs.Words.{map-more}
-use Rattle.standard.proofs.Report.{flatMap-append}
+use Rattle.standard.proofs.Words.{flatMap-append, map-more}
 use Rattle.text.specs.Lines.{faultedText, countsLine}
 
 pub not-heard : (heard faulted : ℕ) → heard ≡ 0 → faultedText heard faulted ≡ minus9999

@@ -16,7 +16,8 @@ use Rattle.standard.specs.Judge.{Handed, verdictFor, verdictsIn}
 use Rattle.standard.specs.Stream.{handedOf}
 use Rattle.standard.specs.Table.{tableBytes, tableAfter}
 use Rattle.standard.specs.Report.{verdictLine}
-use Rattle.standard.proofs.Report.{flatMap-append, verdicts-few}
+use Rattle.standard.proofs.Words.{flatMap-append}
+use Rattle.standard.proofs.Report.{verdicts-few}
 use Rattle.reader.specs.declared.Reader.{Reader}
 use Rattle.reader.specs.Read.{freshReader, stateOf, readOf, Reads}
 use Rattle.reader.specs.Calls.{Reached, fresh, read, Uses}
