@@ -6,7 +6,6 @@ use lib.Dec.{eqb}
 use Rattle.standard.specs.declared.Framing.{Framing}
 use Rattle.standard.specs.declared.Framing.the-variants.{Binary, Ascii}
 use Rattle.standard.specs.Words.{upTo}
-use Rattle.standard.specs.Judge.{Handed}
 use Rattle.standard.specs.Stream.{handedOf}
 use Rattle.standard.specs.Replies.{replyOf}
 use Rattle.standard.specs.Table.{fresh, tableAfter, heardZone, zoneShort}

@@ -6,7 +6,7 @@ use mathlib.Core.List.{List, [], _∷_, map, head-eq-of-cons-eq}
 use lib.ListN.{length, take, drop, length-take, length-drop}
 use borrow.Author.Tests.{eq-eqb, ne-eqb}
 use Rattle.standard.specs.declared.Said.{Said}
-use Rattle.standard.specs.declared.Said.the-variants.{Silent, Gave}
+use Rattle.standard.specs.declared.Said.the-variants.{Gave}
 use Rattle.standard.specs.declared.Verdict.{Verdict}
 use Rattle.standard.specs.declared.Reply.{Reply}
 use Rattle.standard.specs.declared.Reply.the-variants.{Nothing}

@@ -2,14 +2,13 @@
 -- the replies and the final table are those of the uncut stream, split before every start byte and each part judged by itself. The reader's
 -- theorem gives what is handed out; replies and table are functions of that list. Assumes nothing.
 use Prim.Native.Nat.{ℕ, zero, suc, _+_}
-use mathlib.Core.Path.{_≡_, refl, sym, ap, ap₂, _∙_}
+use mathlib.Core.Path.{_≡_, refl, ap, _∙_}
 use mathlib.Core.Bool.{Bool, true, false, cond}
-use mathlib.Core.List.{List, [], _∷_, _++_, map}
+use mathlib.Core.List.{List, [], _∷_, _++_}
 use lib.Dec.{eqb}
 use lib.ListN.{length, drop}
 use Rattle.standard.specs.declared.Framing.{Framing}
 use Rattle.standard.specs.Judge.{Handed}
-use Rattle.standard.specs.Stream.{handedOf}
 use Rattle.standard.specs.Replies.{replyOf}
 use Rattle.standard.specs.Table.{tableBytes, fresh, appliedTo, tableAfter}
 use Rattle.standard.proofs.Words.{map-append}

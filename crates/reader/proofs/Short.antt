@@ -1,7 +1,7 @@
 -- A sound reader hands out no message longer than the longest. Assumes nothing.
 use Prim.Native.Nat.{ℕ, suc, _+_, _≤_, zero-le}
 use native.Mathlib.Omega.{arith}
-use mathlib.Core.Path.{_≡_, refl}
+use mathlib.Core.Path.{_≡_}
 use mathlib.Core.Bool.{Bool, true, false, cond, not}
 use mathlib.Core.Option.{Option, none, some}
 use mathlib.Core.List.{List, [], _∷_, _++_}
@@ -13,7 +13,7 @@ use Rattle.standard.specs.declared.Framing.the-variants.{Binary, Ascii}
 use Rattle.standard.specs.Words.{firstOf}
 use Rattle.standard.specs.Messages.{longest, lengthOk, messageTests}
 use Rattle.standard.specs.Framing.{startOf, valueOf}
-use Rattle.standard.specs.Judge.{Handed, handing, sumsDiffer, wholeOf}
+use Rattle.standard.specs.Judge.{Handed, sumsDiffer, wholeOf}
 use Rattle.standard.proofs.Messages.{length-ok}
 use Rattle.reader.specs.declared.Mode.{Mode}
 use Rattle.reader.specs.declared.Mode.the-variants.{Skipping, Open, Escape, Digit}

@@ -1,7 +1,7 @@
 -- Document 01: "A reader is a value: a byte goes in, the next reader and at most one verdict come out." Here over the bytes held and what is
 -- pending; that the verdicts are those of the stream's parts is a theorem. Assumes nothing.
 use Prim.Native.Nat.{ℕ, suc, _+_, _*_}
-use mathlib.Core.Bool.{Bool, true, false, cond, not, _&&_, _||_}
+use mathlib.Core.Bool.{Bool, true, cond, not, _&&_, _||_}
 use mathlib.Core.Option.{Option, none, some}
 use mathlib.Core.List.{List, [], _∷_, _++_}
 use lib.Bits.{bitXor}

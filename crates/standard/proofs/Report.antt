@@ -3,10 +3,10 @@
 -- Assumes nothing.
 use Prim.Native.Nat.{ℕ, zero, suc, _+_, _-_, _*_, _/_, _%_, _≤_, _<_, zero-le}
 use native.Mathlib.Omega.{arith}
-use mathlib.Core.Path.{_≡_, refl, sym, ap, _∙_}
+use mathlib.Core.Path.{_≡_, refl, ap, _∙_}
 use mathlib.Core.Bool.{Bool, true, false, cond, not, _&&_}
 use mathlib.Core.Option.{Option, none, some}
-use mathlib.Core.List.{List, [], _∷_, _++_, map, flatMap, append-assoc, append-nil}
+use mathlib.Core.List.{List, [], _∷_, _++_, map, flatMap, append-nil}
 use lib.Dec.{eqb, leb, ltb, eqb·suc-zero}
 use lib.ListN.{length, take, drop, replicate, length-append, length-take, length-replicate}
 use borrow.Author.Tests.{lt-ltb, le-ltb, leb-true}
@@ -14,7 +14,7 @@ use Rattle.standard.specs.declared.Framing.{Framing}
 use Rattle.standard.specs.declared.Framing.the-variants.{Binary, Ascii}
 use Rattle.standard.specs.Words.{upTo, total, firstOf}
 use Rattle.standard.specs.Messages.{lengthOk, messageTests}
-use Rattle.standard.specs.Framing.{startOf, Recovered, also, unstuff, recovered, digitsOf, pairs}
+use Rattle.standard.specs.Framing.{startOf, unstuff, recovered, digitsOf, pairs}
 use Rattle.standard.specs.Judge.{Handed, handing, Judged, decided, unfinished, carriesType, sumsDiffer, wholeOf, atStop, ended, stuck, plain, frameJudged, judge}
 use Rattle.standard.specs.Stream.{upToStart, partsOf, partHands, partsHand, handedOf}
 use Rattle.standard.specs.Replies.{replyOf}

@@ -1,15 +1,12 @@
 -- Laws of `total`, `upTo` and `firstOf`, and of lists made from lists. Assumes nothing.
 use Prim.Native.Nat.{ℕ, zero, suc, _+_, _*_, _≤_, zero-le}
-use native.Mathlib.Nat.{add-assoc, suc-mul}
+use native.Mathlib.Nat.{suc-mul}
 use native.Mathlib.Numerals.{add-one}
 use native.Mathlib.Omega.{arith}
 use mathlib.Core.Path.{_≡_, refl, sym, ap, ap₂, _∙_}
-use mathlib.Core.Bool.{Bool, true, false, cond}
 use mathlib.Core.List.{List, [], _∷_, _++_, map, flatMap, append-assoc}
-use lib.Dec.{eqb}
 use lib.ListN.{length, length-append}
-use borrow.Author.Tests.{eq-eqb, ne-eqb, eqb-true, eqb-false}
-use Rattle.standard.specs.Words.{upTo, total, firstOf}
+use Rattle.standard.specs.Words.{upTo, total}
 
 pub total-append : (a b : List ℕ) → total (a ++ b) ≡ total a + total b
 unfolding total

@@ -11,16 +11,15 @@ use Rattle.standard.specs.declared.Framing.{Framing}
 use Rattle.standard.specs.Messages.{among, checkOf}
 use Rattle.standard.specs.Framing.{startOf, frameOf}
 use Rattle.standard.specs.Judge.{Handed, unfinished, handing, judge}
-use Rattle.standard.specs.Stream.{upToStart, partsOf, partHands, partsHand, handedOf}
+use Rattle.standard.specs.Stream.{upToStart, partsOf, partsHand, handedOf}
 use Rattle.standard.proofs.Framings.{Bytes, among-append}
 use Rattle.standard.proofs.Judge.{up-to-through, parts-through, parts-start}
 use Rattle.reader.specs.declared.Mode.the-variants.{Skipping}
 use Rattle.reader.specs.Step.{State}
 use Rattle.reader.specs.Read.{freshReader, readOf}
-use Rattle.reader.specs.Calls.{Reached, fresh, Uses}
+use Rattle.reader.specs.Calls.{fresh, Uses}
 use Rattle.reader.proofs.Parts.{run, after, run-append, run-parts}
 use Rattle.reader.proofs.Used.{used-rule, used-one}
-use Rattle.writer.specs.RoundTrip.{Reads}
 use Rattle.writer.proofs.RoundTrip.{FrameReads, frame-reads, write-then-read-one}
 
 neither : (a b : Bool) → (a || b) ≡ false → a ≡ false

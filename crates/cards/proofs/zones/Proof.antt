@@ -1,8 +1,5 @@
 -- `cards::zones` is safe and ends: 256 zones. Assumes nothing.
 use Prim.Native.Nat.{_≤_, _-_}
-use native.Mathlib.Omega.{arith}
-use mathlib.Core.Path.{_≡_}
-use lib.ListN.{length}
 use borrow.Author.Needs.{needs}
 use Rattle.cards.proofs.zones.Statement.{statement}
 use Rattle.cards.proofs.zones.Tie as tie

@@ -1,10 +1,8 @@
 -- `host::hear` meets its contract: what `read`, `store` and `reply` promise, put together by the laws of Answers. Assumes nothing.
 use Rattle.standard.specs.declared.Said.the-variants.{Gave}
 use lib.ListN.{length}
-use Prim.Native.Nat.{ℕ}
 use Rattle.standard.specs.Table.{tableAfter}
-use mathlib.Core.List.{List}
-use mathlib.Core.Path.{_≡_, refl, sym, ap, _∙_}
+use mathlib.Core.Path.{_≡_, refl}
 use native.Mathlib.Omega.{arith}
 use Rattle.host.proofs.Answers.{refused, hears, message-fits}
 use borrow.Author.Needs.{needs}

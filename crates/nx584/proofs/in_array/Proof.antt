@@ -1,9 +1,9 @@
 use borrow.Author.Needs.{needs}
 use Rattle.standard.proofs.Put.{sets-more}
 use lib.Seq.{sets, sets-eq}
-use lib.ListN.{length, getD, drop, length-set, replicate, drop-of-length-le}
+use lib.ListN.{length, drop, length-set, replicate, drop-of-length-le}
 use mathlib.Core.List.{List, []}
-use mathlib.Core.Path.{_≡_, refl, sym, ap, _∙_}
+use mathlib.Core.Path.{_≡_, refl, _∙_}
 use native.Mathlib.Omega.{arith}
 use Prim.Native.Nat.{ℕ, _+_, _-_, _≤_}
 use Rattle.nx584.proofs.in_array.Statement.{statement}

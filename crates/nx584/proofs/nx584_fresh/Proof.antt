@@ -1,8 +1,6 @@
 use Rattle.reader.specs.declared.Reader.{Reader}
-use Prim.Native.Nat.{ℕ}
 use mathlib.Core.Path.{_≡_, ap}
 use native.Mathlib.Omega.{arith}
-use Rattle.standard.specs.declared.Framing.{Framing}
 use borrow.Author.Needs.{needs}
 use Rattle.nx584.proofs.nx584_fresh.Statement.{statement}
 use Rattle.nx584.proofs.nx584_fresh.Tie as tie

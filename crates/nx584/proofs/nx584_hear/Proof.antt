@@ -1,10 +1,9 @@
 use native.Mathlib.Omega.{arith}
 use borrow.Author.Tests.{not-true, not-false}
-use mathlib.Core.Bool.{true, false}
-use mathlib.Core.Path.{_≡_, refl, sym, ap, ap₂, _∙_}
+use mathlib.Core.Path.{refl, sym, ap₂, _∙_}
 use Rattle.host.proofs.Answers.{heard-read}
 use Rattle.standard.specs.Replies.{replyOf}
-use Rattle.nx584.specs.Boundary.{readerFor, lineReading, withReply}
+use Rattle.nx584.specs.Boundary.{readerFor, withReply}
 use Rattle.nx584.proofs.Lines.{line-sound, read-refused, heard-line, heard-refused, took-fits, hear-refused, hear-took}
 use borrow.Author.Needs.{needs}
 use Rattle.nx584.proofs.nx584_hear.Statement.{statement}

@@ -1,7 +1,6 @@
 use borrow.Author.Tests.{not-true, not-false}
-use mathlib.Core.Bool.{true, false}
-use mathlib.Core.Path.{_≡_, sym, ap, _∙_}
-use Rattle.reader.specs.Read.{Gives, readOf, Reads}
+use mathlib.Core.Path.{sym, ap, _∙_}
+use Rattle.reader.specs.Read.{readOf}
 use Rattle.nx584.specs.Boundary.{readerFor, lineReading}
 use Rattle.nx584.proofs.Lines.{line-sound, read-took, read-refused, took-fits, took-line}
 use borrow.Author.Needs.{needs}

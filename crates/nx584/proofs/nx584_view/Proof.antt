@@ -1,4 +1,4 @@
-use mathlib.Core.Path.{_≡_, ap}
+use mathlib.Core.Path.{ap}
 use Rattle.nx584.specs.Boundary.{lineOverview}
 use borrow.Author.Needs.{needs}
 use Rattle.nx584.proofs.nx584_view.Statement.{statement}

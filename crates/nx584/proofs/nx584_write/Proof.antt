@@ -1,4 +1,4 @@
-use mathlib.Core.Path.{_≡_, sym, ap, _∙_}
+use mathlib.Core.Path.{ap}
 use Rattle.nx584.specs.Boundary.{lineWritten}
 use borrow.Author.Needs.{needs}
 use Rattle.nx584.proofs.nx584_write.Statement.{statement}

@@ -1,6 +1,6 @@
 use Rattle.reader.specs.Read.{soundReader}
 use mathlib.Core.Logic.{⊎-elim}
-use mathlib.Core.Path.{_≡_, sym, ap, _∙_}
+use mathlib.Core.Path.{sym, ap, _∙_}
 use Rattle.nx584.proofs.Lines.{no-mode, no-digit, a-digit, another-mode}
 use borrow.Author.Needs.{needs}
 use Rattle.nx584.proofs.sound_line.Statement.{statement}

@@ -1,9 +1,8 @@
 use Rattle.nx584.proofs.Lines.{gave-line}
-use Rattle.nx584.specs.Boundary.{lengthSaid}
 use lib.ListN.{length, length-take}
-use Prim.Native.Nat.{ℕ, _≤_}
+use Prim.Native.Nat.{_≤_}
 use native.Mathlib.Omega.{arith}
-use mathlib.Core.Path.{_≡_, sym, ap, _∙_}
+use mathlib.Core.Path.{_≡_}
 use borrow.Author.Needs.{needs}
 use Rattle.nx584.proofs.took.Statement.{statement}
 use Rattle.nx584.proofs.took.Tie as tie
