@@ -36,7 +36,7 @@ fn store(table: &mut [u8], verdict: Verdict, bytes: &[u8])
 pub fn hear(reader: Reader, table: &mut [u8], bytes: &[u8]) -> Hearing
     ensures { λ r. ⌜ Hears reader (now (table .entry)) (now (bytes .entry)) (r .reader) (r .used) (r .said) (r .reply) (now (table .exit)) ⌝ }
 {
-    if table.len() != 2132 {
+    if table.len() != table::TABLE_BYTES {
         return Hearing {
             reader,
             used: 0,

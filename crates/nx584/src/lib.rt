@@ -19,6 +19,12 @@ ghost use Rattle.standard.specs.Overview.{seenOf, shareNumber, groupValues};
 ghost use Rattle.reader.specs.Read.{freshReader};
 ghost use Rattle.nx584.specs.Boundary.{framingFor, framingNumber, pendingFor, readerFor, lineReader, soundLine, lengthSaid, padded, lineRefused, lineReading, withReply, lineRead, LineHears, LineWrote, lineGroup, lineOverview};
 
+// NX584_LONGEST: the most bytes of a message.
+const LONGEST: usize = 18;
+
+// The most bytes that a reader holds: the length, the longest message and two sums.
+const MOST: usize = LONGEST + 3;
+
 // A reader: framing 0 is binary, any other ASCII; mode 0 skipping, 1 in a frame, 2 after a 7Dh,
 // 3 a digit pending.
 #[repr(C)]
@@ -27,7 +33,7 @@ pub struct LineReader {
     pub mode: u8,
     pub digit: u8,
     pub held: u16,
-    pub bytes: [u8; 21],
+    pub bytes: [u8; MOST],
 }
 
 // A read: the verdict or 255, the type byte or 0, the message and zeros.
@@ -38,7 +44,7 @@ pub struct LineReading {
     pub verdict: u8,
     pub type_byte: u8,
     pub length: u8,
-    pub message: [u8; 18],
+    pub message: [u8; LONGEST],
 }
 
 // The writer's answer.
@@ -74,7 +80,7 @@ pub struct LineHearing {
     pub type_byte: u8,
     pub reply: u8,
     pub length: u8,
-    pub message: [u8; 18],
+    pub message: [u8; LONGEST],
 }
 
 fn framing_for(framing: u8) -> Framing
@@ -197,11 +203,11 @@ fn line_group(group: Group) -> LineGroup
 }
 
 // A message in its array, zero beyond its length.
-fn in_array(message: &[u8]) -> [u8; 18]
+fn in_array(message: &[u8]) -> [u8; LONGEST]
     requires { ⌜ length (now message) ≤ 18 ⌝ }
     ensures { λ r. ⌜ r ≡ padded (now (message .entry)) ⌝ }
 {
-    let mut array = [0u8; 18];
+    let mut array = [0u8; LONGEST];
     let mut i = 0;
     while i < message.len() {
         array[i] = message[i];
@@ -236,7 +242,7 @@ fn refused(c: LineReader, number: u8) -> LineReading
         verdict: number,
         type_byte: 0,
         length: 0,
-        message: [0u8; 18],
+        message: [0u8; LONGEST],
     }
 }
 
@@ -255,7 +261,7 @@ fn took(reader: Reader, used: usize, said: Said) -> LineReading
             verdict: 255,
             type_byte: 0,
             length: 0,
-            message: [0u8; 18],
+            message: [0u8; LONGEST],
         },
         Said::Gave(verdict) => {
             let end = verdict.length as usize + 1;
@@ -396,7 +402,7 @@ pub extern "C" fn nx584_view(table: &[u8]) -> LineOverview
 pub extern "C" fn nx584_hear(reader: LineReader, table: &mut [u8], bytes: &[u8]) -> LineHearing
     ensures { λ r. ⌜ LineHears reader (now (table .entry)) (now (bytes .entry)) r (now (table .exit)) ⌝ }
 {
-    if table.len() != 2132 {
+    if table.len() != table::TABLE_BYTES {
         return with_reply(refused(reader, 11), 0);
     }
     if !sound_line(reader) {

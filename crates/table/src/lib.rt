@@ -19,7 +19,7 @@ pub struct Answer {
 }
 
 // "2,132 bytes: 256 zone records of 8, then 8 partition records of 9, then the system record of 12."
-const TABLE_BYTES: usize = 2132;
+pub const TABLE_BYTES: usize = 2132;
 
 // Where the system record begins.
 const SYSTEM_AT: usize = 2120;
