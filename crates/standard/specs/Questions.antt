@@ -2,16 +2,12 @@
 -- from 0, as in Table.antt. Assumes nothing.
 use Prim.Native.Nat.{ℕ, _+_}
 use mathlib.Core.Path.{_≡_}
-use mathlib.Core.Bool.{Bool, cond, not}
+use mathlib.Core.Bool.{cond, not}
 use mathlib.Core.List.{List, [], _∷_}
 use lib.Dec.{eqb, leb}
-use lib.ListN.{length, take, drop}
+use lib.ListN.{take, drop}
 use Rattle.standard.specs.Words.{firstOf}
-use Rattle.standard.specs.Table.{tableBytes, zoneAt, partitionAt, systemAt}
-
--- 11: "table buffer is not 2,132 bytes"
-abbrev pub tableTest : List ℕ → Bool × ℕ
-tableTest t = (not (eqb (length t) tableBytes), 11)
+use Rattle.standard.specs.Table.{tableTest, zoneAt, partitionAt, systemAt}
 
 -- every zone is a byte, so a question about one, or about the system, is refused for the table alone
 unfoldable pub tableRefusal : List ℕ → ℕ

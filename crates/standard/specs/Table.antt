@@ -2,7 +2,7 @@
 -- zone 1 is 0. Assumes nothing.
 use Prim.Native.Nat.{ℕ, suc, _+_, _*_, _/_, _%_, max}
 use mathlib.Core.Path.{_≡_}
-use mathlib.Core.Bool.{cond, not}
+use mathlib.Core.Bool.{Bool, cond, not}
 use mathlib.Core.List.{List, [], _∷_, flatMap}
 use lib.Bits.{bitOr}
 use lib.Dec.{eqb}
@@ -111,9 +111,13 @@ unfoldable pub doneAll : List Write → List ℕ → List ℕ
 doneAll [] t = t
 doneAll (w ∷ ws) t = doneAll ws (done w t)
 
+-- 11: "table buffer is not 2,132 bytes"
+abbrev pub tableTest : List ℕ → Bool × ℕ
+tableTest t = (not (eqb (length t) tableBytes), 11)
+
 -- "Order of refusal: 11, 4, 6, 7, 8"
 unfoldable pub applyRefusal : List ℕ → List ℕ → ℕ
-applyRefusal t m = firstOf ((not (eqb (length t) tableBytes), 11) ∷ messageTests m)
+applyRefusal t m = firstOf (tableTest t ∷ messageTests m)
 
 unfoldable pub appliedTo : List ℕ → List ℕ → List ℕ
 appliedTo t m = cond (eqb (applyRefusal t m) 0) (doneAll (writesOf (numberOf (byte 1 m)) m) t) t
