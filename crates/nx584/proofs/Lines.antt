@@ -7,27 +7,26 @@ use mathlib.Core.Bool.{Bool, true, false, cond, _&&_}
 use mathlib.Core.List.{List, [], _∷_, _++_, map, head-eq-of-cons-eq, cons≢nil}
 use lib.Dec.{eqb, leb}
 use lib.ListN.{length, getD, take, drop, set, length-drop, length-map, List·getD-map}
-use lib.Seq.{length-take-le, take-suc, take-suc-set}
+use lib.Seq.{length-take-le, take-suc, take-suc-set, take-append-seam}
 use borrow.Author.Tests.{eq-eqb, ne-eqb, le-leb, lt-leb}
 use Rattle.standard.specs.declared.Said.{Said}
 use Rattle.standard.specs.declared.Said.the-variants.{Silent, Gave}
 use Rattle.standard.specs.declared.Verdict.{Verdict}
 use Rattle.standard.specs.Messages.{longest}
 use Rattle.standard.specs.Judge.{Handed, handing, carriesType, verdictFor, verdictsIn, handedIn}
-use Rattle.standard.specs.declared.Reply.{Reply}
-use Rattle.standard.specs.Replies.{replyNumber, replyOf}
-use Rattle.standard.specs.Table.{tableBytes, tableAfter}
+use Rattle.standard.specs.Replies.{replyOf}
+use Rattle.standard.specs.Table.{tableBytes, tableAfter, appliedTo}
 use Rattle.standard.proofs.Messages.{both-true}
 use Rattle.reader.specs.declared.Reader.{Reader}
 use Rattle.reader.specs.Read.{Answer, soundReader, readOf, Gives}
 use Rattle.reader.proofs.Soundness.{sound-held}
 use Rattle.reader.proofs.Arrays.{sound-read}
 use Rattle.reader.proofs.Short.{Short, read-short}
-use Rattle.host.specs.Hear.{replyTo, heardBy, Hears}
-use Rattle.host.proofs.Answers.{heard-read}
+use Rattle.reader.proofs.Handing.{saidFor, one-verdict}
+use Rattle.host.specs.Hear.{replyTo}
 use Rattle.nx584.specs.declared.LineReader.{LineReader}
 use Rattle.nx584.specs.declared.LineHearing.{LineHearing}
-use Rattle.nx584.specs.Boundary.{readerFor, soundLine, typeSaid, messageSaid, lengthSaid, padded, lineReader, lineReading, withReply, lineHearing, LineAnswer, lineTook, lineRefused, lineRead, lineHeard, LineHears}
+use Rattle.nx584.specs.Boundary.{readerFor, soundLine, numberSaid, typeSaid, messageSaid, lengthSaid, numbersSaid, padded, lineReader, lineReading, withReply, lineHearing, LineAnswer, lineTook, lineRefused, lineRead, lineHeard, LineHears}
 
 same-both : {A : Type 0} (t : Bool) (x : A) → cond t x x ≡ x
 same-both true x = refl
@@ -134,19 +133,51 @@ map-turn f gs out i d x h k e v =
     ∙ sym (take-suc (map f gs) i (f d) n)
     ∙ ap (λ (j : ℕ). take j (map f gs)) (sym (add-one i))
 
-pub hear-took : (c : LineReader) (t bs : List ℕ) (reader : Reader) (used : ℕ) (said : Said) (reply : Reply) (after : List ℕ) (answer : LineHearing)
-    → length t ≡ tableBytes → soundLine c ≡ true → Hears (readerFor c) t bs reader used said reply after
-    → answer ≡ withReply (lineReading (record { reader = lineReader reader; used = used; said = handedIn said (reader .bytes) })) (replyNumber reply)
-    → LineHears c t bs answer after
-hear-took c t bs reader used said reply after answer w h p e =
-    let a = readOf (readerFor c) bs in
-    let same : heardBy (readerFor c) t bs ≡ a = heard-read (readerFor c) t bs w in
-    let line : lineHeard c t bs ≡ lineTook a = heard-line c t bs w ∙ read-took c bs h in
-    let g : Gives reader said a = rw same at (p .gives) in
-    let u : used ≡ a .used = rw same at (p .uses) in
-    let r : replyNumber reply ≡ replyTo (a .said) = rw same at (p .replies) in
-    let l : after ≡ tableAfter t (a .said) = rw same at (p .leaves) in
-    record {
-      says = e ∙ ap₂ withReply (ap lineReading (took-line a reader used said g u)) r ∙ sym (ap lineHearing line);
-      leaves = l ∙ sym (ap (λ (x : LineAnswer). tableAfter t (x .said)) line);
-    }
+-- ---- what was said, from its numbers
+
+pub length-said : (said : Said) → numbersSaid said .length ≡ lengthSaid said
+length-said Silent = refl
+length-said (Gave v) = refl
+
+-- an answer with or without a verdict, and its message
+pub said-line : (reader : LineReader) (used : ℕ) (said : Said) (bytes message : List ℕ) → lengthSaid said + 1 ≤ length bytes
+    → message ≡ padded (take (numbersSaid said .length + 1 - 1) (drop 1 bytes))
+    → record { reader = reader; used = used; verdict = numbersSaid said .number; «type_byte» = numbersSaid said .«type_byte»; length = numbersSaid said .length; message = message }
+    ≡ lineReading (record { reader = reader; used = used; said = handedIn said bytes })
+said-line reader used Silent bytes message h e = rw e
+said-line reader used (Gave v) bytes message h e = gave-line reader used v bytes message h e
+
+pub reply-said : (hs : List Handed) → replyOf (numberSaid hs) (typeSaid hs) ≡ replyTo hs
+unfolding replyOf
+reply-said [] = refl
+reply-said (h ∷ hs) = refl
+
+stored-said : (t : List ℕ) (hs : List Handed) → verdictsIn (saidFor hs) ≡ map verdictFor hs
+    → cond (eqb (numberSaid hs) 0) (appliedTo t (take (length (messageSaid hs)) (padded (messageSaid hs)))) t ≡ tableAfter t hs
+unfolding tableAfter
+stored-said t [] e = refl
+stored-said t (h ∷ []) e = rw (take-append-seam (h .message) _)
+stored-said t (h ∷ g ∷ hs) e = absurd (let z = ap length e in omega arith)
+
+short-said : (hs : List Handed) → Short hs → length (messageSaid hs) ≤ longest
+short-said [] k = omega arith
+short-said (h ∷ hs) k = k
+
+-- a read by numbers says at most one verdict, and its message fits
+pub stored-line : (c : LineReader) (t bs : List ℕ)
+    → cond (eqb (numberSaid (lineRead c bs .said)) 0) (appliedTo t (take (length (messageSaid (lineRead c bs .said))) (padded (messageSaid (lineRead c bs .said))))) t
+    ≡ tableAfter t (lineRead c bs .said)
+stored-line c t bs = go (soundLine c) refl
+  where
+    go : (b : Bool) → soundLine c ≡ b
+        → cond (eqb (numberSaid (lineRead c bs .said)) 0) (appliedTo t (take (length (messageSaid (lineRead c bs .said))) (padded (messageSaid (lineRead c bs .said))))) t
+        ≡ tableAfter t (lineRead c bs .said)
+    go true h = rw (read-took c bs h) (stored-said t (readOf (readerFor c) bs .said) (one-verdict (readerFor c) bs))
+    go false h = rw (read-refused c bs h) (stored-said t (handing 12 [] ∷ []) refl)
+
+pub line-short : (c : LineReader) (bs : List ℕ) → length (messageSaid (lineRead c bs .said)) ≤ 18
+line-short c bs = go (soundLine c) refl
+  where
+    go : (b : Bool) → soundLine c ≡ b → length (messageSaid (lineRead c bs .said)) ≤ 18
+    go true h = rw (read-took c bs h) (short-said (readOf (readerFor c) bs .said) (read-short (readerFor c) bs (line-sound c h)))
+    go false h = rw (read-refused c bs h) (omega arith)

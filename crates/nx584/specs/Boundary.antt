@@ -12,6 +12,7 @@ use Rattle.standard.specs.declared.Framing.the-variants.{Binary, Ascii}
 use Rattle.standard.specs.Words.{laid}
 use Rattle.standard.specs.Messages.{longest}
 use Rattle.standard.specs.Judge.{Handed, handing}
+use Rattle.standard.specs.declared.Verdict.{Verdict}
 use Rattle.standard.specs.declared.Said.{Said}
 use Rattle.standard.specs.declared.Said.the-variants.{Silent, Gave}
 use Rattle.standard.specs.declared.Written.{Written}
@@ -97,6 +98,11 @@ messageSaid (h ∷ hs) = h .message
 abbrev pub lengthSaid : Said → ℕ
 lengthSaid Silent = 0
 lengthSaid (Gave v) = v .length
+
+-- a verdict of code; 255 for none
+abbrev pub numbersSaid : Said → Verdict
+numbersSaid Silent = record { number = 255; «type_byte» = 0; length = 0 }
+numbersSaid (Gave v) = v
 
 -- a message in its array: zero beyond its length
 abbrev pub padded : List ℕ → List ℕ

@@ -6,18 +6,21 @@ use standard::Group;
 use standard::Reply;
 use standard::Said;
 use standard::Share;
+use standard::Verdict;
 ghost use mathlib.Core.Path.{_≡_};
+ghost use mathlib.Core.Bool.{cond};
 ghost use mathlib.Core.Option.{Option·getD};
+ghost use lib.Dec.{eqb};
 ghost use mathlib.Core.List.{List, [], _∷_, map};
 ghost use Prim.Native.Nat.{ℕ, _≤_};
 ghost use lib.Ieee.{nan};
 ghost use lib.ListN.{length, take};
 ghost use Rattle.standard.specs.Judge.{handedIn};
 ghost use Rattle.standard.specs.Replies.{replyNumber, replyOf};
-ghost use Rattle.standard.specs.Table.{Applied};
+ghost use Rattle.standard.specs.Table.{Applied, appliedTo};
 ghost use Rattle.standard.specs.Overview.{seenOf, shareNumber, groupValues};
 ghost use Rattle.reader.specs.Read.{freshReader};
-ghost use Rattle.nx584.specs.Boundary.{framingFor, framingNumber, pendingFor, readerFor, lineReader, soundLine, lengthSaid, padded, lineRefused, lineReading, withReply, lineRead, LineHears, LineWrote, lineGroup, lineOverview};
+ghost use Rattle.nx584.specs.Boundary.{framingFor, framingNumber, pendingFor, readerFor, lineReader, soundLine, lengthSaid, numbersSaid, padded, lineRefused, lineReading, withReply, lineRead, LineHears, LineWrote, lineGroup, lineOverview};
 
 // NX584_LONGEST: the most bytes of a message.
 const LONGEST: usize = 18;
@@ -246,34 +249,32 @@ fn refused(c: LineReader, number: u8) -> LineReading
     }
 }
 
-// What was read, in numbers.
-fn took(reader: Reader, used: usize, said: Said) -> LineReading
-    requires { ⌜ reader .held ≤ 65535 ⌝ }
-    requires { ⌜ lengthSaid said ≤ 18 ⌝ }
-    ensures { λ r. ⌜ r ≡ lineReading (record { reader = lineReader reader; used = used; said = handedIn said (reader .bytes) }) ⌝ }
+// The verdict's numbers; 255 for none.
+fn numbers(said: Said) -> Verdict
+    ensures { λ r. ⌜ r ≡ numbersSaid said ⌝ }
 {
-    let bytes = reader.bytes;
-    let next = line_reader(reader);
     match said {
-        Said::Silent => LineReading {
-            reader: next,
-            used,
-            verdict: 255,
+        Said::Silent => Verdict {
+            number: 255,
             type_byte: 0,
             length: 0,
-            message: [0u8; LONGEST],
         },
-        Said::Gave(verdict) => {
-            let end = verdict.length as usize + 1;
-            LineReading {
-                reader: next,
-                used,
-                verdict: verdict.number,
-                type_byte: verdict.type_byte,
-                length: verdict.length,
-                message: in_array(&bytes[1..end]),
-            }
-        }
+        Said::Gave(verdict) => verdict,
+    }
+}
+
+// What was read, in numbers. The message is copied from the frame before the frame is: the compiler leaves no copy between.
+fn took(reader: Reader, used: usize, verdict: Verdict, message: [u8; LONGEST]) -> LineReading
+    requires { ⌜ reader .held ≤ 65535 ⌝ }
+    ensures { λ r. ⌜ r ≡ record { reader = lineReader reader; used = used; verdict = verdict .number; «type_byte» = verdict .«type_byte»; length = verdict .length; message = message } ⌝ }
+{
+    LineReading {
+        reader: line_reader(reader),
+        used,
+        verdict: verdict.number,
+        type_byte: verdict.type_byte,
+        length: verdict.length,
+        message,
     }
 }
 
@@ -290,6 +291,18 @@ fn with_reply(reading: LineReading, reply: u8) -> LineHearing
         reply,
         length: reading.length,
         message,
+    }
+}
+
+// A good message goes into the table.
+fn store(table: &mut [u8], reading: LineReading)
+    requires { ⌜ reading .length ≤ 18 ⌝ }
+    ensures { λ _. ⌜ now (table .exit) ≡ cond (eqb (reading .verdict) 0) (appliedTo (now (table .entry)) (take (reading .length) (reading .message))) (now (table .entry)) ⌝ }
+{
+    let message = reading.message;
+    let n = reading.length as usize;
+    if reading.verdict == 0 {
+        table::apply(table, &message[..n]);
     }
 }
 
@@ -334,10 +347,21 @@ pub extern "C" fn nx584_read(reader: LineReader, bytes: &[u8]) -> LineReading
     if !sound_line(reader) {
         return refused(reader, 12);
     }
-    let reading = reader::read(reader_for(reader), bytes);
-    let next = reading.reader;
-    let said = reading.said;
-    took(next, reading.used, said)
+    let start = reader_for(reader);
+    let mode = start.mode;
+    let mut frame = start.bytes;
+    let scanned = reader::scan(mode, start.held, &mut frame, bytes);
+    let next = scanned.mode;
+    let said = scanned.said;
+    let verdict = numbers(said);
+    let end = verdict.length as usize + 1;
+    let message = in_array(&frame[1..end]);
+    let after = Reader {
+        mode: next,
+        held: scanned.held,
+        bytes: frame,
+    };
+    took(after, scanned.used, verdict, message)
 }
 
 // A read of one byte.
@@ -405,12 +429,7 @@ pub extern "C" fn nx584_hear(reader: LineReader, table: &mut [u8], bytes: &[u8])
     if table.len() != table::TABLE_BYTES {
         return with_reply(refused(reader, 11), 0);
     }
-    if !sound_line(reader) {
-        return with_reply(refused(reader, 12), 0);
-    }
-    let hearing = host::hear(reader_for(reader), table, bytes);
-    let next = hearing.reader;
-    let said = hearing.said;
-    let reply = hearing.reply;
-    with_reply(took(next, hearing.used, said), reply_number(reply))
+    let reading = nx584_read(reader, bytes);
+    store(table, reading);
+    with_reply(reading, nx584_reply(reading.verdict, reading.type_byte))
 }

@@ -8,13 +8,16 @@ use mathlib.Core.Bool.{Bool, true, false, cond}
 use mathlib.Core.List.{List, [], _∷_, _++_, map}
 use lib.Dec.{eqb}
 use lib.ListN.{length, getD, take, drop, set, length-append, take-append-drop, drop-of-length-le}
-use lib.Seq.{length-take-le, drop-cons, append-snoc, set-split}
-use borrow.Author.Tests.{eqb-false}
+use lib.Seq.{length-take-le, drop-cons, append-snoc, set-split, take-take}
+use borrow.Author.Tests.{eqb-true, eqb-false}
 use Rattle.standard.specs.declared.Framing.{Framing}
+use Rattle.standard.specs.declared.Framing.the-variants.{Binary}
+use Rattle.standard.specs.declared.Sums.{Sums}
 use Rattle.standard.specs.declared.Verdict.{Verdict}
 use Rattle.standard.specs.declared.Said.{Said}
 use Rattle.standard.specs.declared.Said.the-variants.{Silent, Gave}
 use Rattle.standard.specs.Words.{laid}
+use Rattle.standard.specs.Sums.{sumsOf}
 use Rattle.standard.specs.Messages.{longest, lengthOk}
 use Rattle.standard.specs.Framing.{startOf}
 use Rattle.standard.specs.Judge.{Handed, handing, verdictFor, verdictsIn}
@@ -27,13 +30,14 @@ use Rattle.reader.specs.declared.Decision.{Decision}
 use Rattle.reader.specs.declared.Reader.{Reader}
 use Rattle.reader.specs.Step.{Step, beyondLength, goes, stepOf}
 use Rattle.reader.specs.Read.{readOn, scanOf, stateOf, soundReader, Answer, notSound, readFrom, readOf, Reads}
-use Rattle.reader.specs.Decide.{stepIn, judgedOf, keptBy, heldBy, saidBy, Bound, Done, Complete, skippedIn}
+use Rattle.reader.specs.Decide.{stepIn, judgedOf, keptBy, heldBy, saidBy, Bound, Done, Complete, skippedIn, allStand, Summed, Entire, EntireAt}
 use Rattle.reader.proofs.Soundness.{Few, reader-fits, sound-held}
 use Rattle.reader.proofs.Frames.{length-snoc, by-test, whole-front}
 use Rattle.reader.proofs.Kept.{keeps-step}
 use Rattle.reader.proofs.Arrays.{laid-front, read-sound, read-unsound, sound-read, Whole, whole-read, read-none, thenRead, read-steps}
 use Rattle.reader.proofs.Handing.{handed-from-verdict}
 use Rattle.reader.proofs.CodeSteps.{all-held, no-start}
+use Rattle.reader.proofs.CodeWhole.{frameRead, start-run}
 
 -- ---- the array
 
@@ -247,3 +251,51 @@ left-skipped r bs sound = by-mode (r .mode) refl
     by-mode (Open f) e = left-all r bs
     by-mode Escape e = left-all r bs
     by-mode (Digit d) e = left-all r bs
+
+-- ---- a whole frame at once
+
+-- the byte after those that are skipped is a start
+start-there : (x : ℕ) (bs : List ℕ) → length (upToStart x bs) < length bs → getD bs (length (upToStart x bs)) 0 ≡ x
+start-there x [] h = absurd (omega arith)
+start-there x (b ∷ bs) h =
+    by-test (λ l. length l < suc (length bs) → getD (b ∷ bs) (length l) 0 ≡ x) (eqb b x) [] (b ∷ upToStart x bs)
+    (λ e k. eqb-true b x e) (λ e k. start-there x bs (omega arith)) h
+
+-- a frame cut off the bytes that it begins
+entire-run : (held bytes : List ℕ) (n : ℕ) (sums : Sums) → Entire bytes n sums
+    → scanOf (record { mode = Skipping Binary; held = held }) (0x7E ∷ bytes) ≡ frameRead (take n bytes) (suc n)
+entire-run held [] n sums w = absurd (omega (arith, w .inside, w .size))
+entire-run held (L ∷ rest) n sums w =
+    let k = L + 2 in
+    let m : n ≡ suc k = omega (arith, w .size) in
+    let size : length (take k rest) ≡ k = length-take-le k rest (omega (arith, w .inside)) in
+    let plain : allStand (L ∷ take k rest) ≡ true = rw m at (w .plain) in
+    ap (λ l. scanOf (record { mode = Skipping Binary; held = held }) (0x7E ∷ L ∷ l)) (sym (take-append-drop k rest))
+    ∙ start-run held L (take k rest) (drop k rest) (w .known) plain size
+    ∙ rw (m, size)
+
+-- it can be judged, and these are its sums
+pub entire-complete : (bytes : List ℕ) (n : ℕ) (sums : Sums) → Entire bytes n sums → Complete (take n bytes) × Summed (take n bytes) sums
+entire-complete [] n sums w = absurd (omega (arith, w .inside, w .size))
+entire-complete (L ∷ rest) n sums w =
+    let k = L + 2 in
+    let m : n ≡ suc k = omega (arith, w .size) in
+    let size : length (take k rest) ≡ k = length-take-le k rest (omega (arith, w .inside)) in
+    let front : take (L + 1) (L ∷ take k rest) ≡ take (L + 1) (L ∷ rest) = rw (add-one L, take-take L k rest (omega arith)) in
+    rw m (record { known = w .known; all = omega arith }, record { are = w .summed ∙ ap sumsOf (sym front) })
+
+pub reads-entire : (r : Reader) (bs : List ℕ) (i n : ℕ) (sums : Sums) → soundReader r ≡ true → i ≡ skippedIn (r .mode) bs
+    → EntireAt (r .mode) bs i n sums → (v : Verdict) → v ≡ verdictFor (judgedOf (take n (drop (i + 1) bs)))
+    → Reads r bs (record { mode = r .mode; held = 0; bytes = laid (r .bytes) 0 (take n (drop (i + 1) bs)) }) (i + 1 + n) (Gave v)
+reads-entire r bs i n sums sound e w v ev =
+    let part = take n (drop (i + 1) bs) in
+    let held = take (r .held) (r .bytes) in
+    let place : i ≡ length (upToStart 0x7E bs) = e ∙ ap (λ m. skippedIn m bs) (w .skipping) in
+    let here : getD bs i 0 ≡ 0x7E = ap (λ k. getD bs k 0) place ∙ start-there 0x7E bs (omega (arith, w .inside)) in
+    let first : drop i bs ≡ 0x7E ∷ drop (i + 1) bs = drop-cons bs i 0 (w .inside) ∙ rw (here, add-one i) in
+    let left : Left r bs i r = rw e (left-skipped r bs sound) in
+    let scan : scanOf (stateOf r) (drop i bs) ≡ frameRead part (suc n) =
+    ap (scanOf (stateOf r)) first ∙ rw (w .skipping) (entire-run held (drop (i + 1) bs) n sums (w .entire)) in
+    let used : i + suc n ≡ i + 1 + n = omega arith in
+    reads r bs (record { reader = record { mode = r .mode; held = 0; bytes = laid (r .bytes) 0 part }; used = i + 1 + n; said = judgedOf part ∷ [] }) (Gave v)
+    (left ∙ rw (read-sound r (drop i bs) sound, scan, used, w .skipping)) (ap (λ x. x ∷ []) ev)

@@ -15,5 +15,6 @@ pub mod Unique
 pub mod CodeSteps
 pub mod CodeJudge
 pub mod CodeSkip
+pub mod CodeWhole
 pub mod CodeLoop
 pub mod Short

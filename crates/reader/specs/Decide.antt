@@ -2,12 +2,15 @@
 -- Assumes nothing.
 use Prim.Native.Nat.{ℕ, _+_, _≤_, _<_}
 use mathlib.Core.Path.{_≡_}
-use mathlib.Core.Bool.{Bool, true, false, cond}
+use mathlib.Core.Bool.{Bool, true, false, cond, _&&_, _||_}
 use mathlib.Core.Option.{Option, none, some}
 use mathlib.Core.List.{List, [], _∷_, _++_}
-use lib.Dec.{eqb}
+use lib.Dec.{eqb, ltb}
 use lib.ListN.{length, getD, take, drop}
 use Rattle.standard.specs.declared.Framing.{Framing}
+use Rattle.standard.specs.declared.Framing.the-variants.{Binary}
+use Rattle.standard.specs.declared.Sums.{Sums}
+use Rattle.standard.specs.Sums.{sumsOf}
 use Rattle.standard.specs.Messages.{lengthOk, among}
 use Rattle.standard.specs.Framing.{startOf, valueOf}
 use Rattle.standard.specs.Judge.{Handed, handing, wholeOf}
@@ -17,6 +20,7 @@ use Rattle.reader.specs.declared.Mode.the-variants.{Skipping, Open, Esca
 use Rattle.reader.specs.declared.Outcome.{Outcome}
 use Rattle.reader.specs.declared.Outcome.the-variants.{Nothing, Number, Judgement}
 use Rattle.reader.specs.declared.Decision.{Decision}
+use Rattle.reader.specs.declared.Standing.{Standing}
 use Rattle.reader.specs.Step.{Step, ends, opens, stepOf}
 
 -- ---- steps, by the bytes held
@@ -98,6 +102,10 @@ pub record Complete (frame : List ℕ) : Type 0 where
   pub known : lengthOk (getD frame 0 0) ≡ true
   pub all : getD frame 0 0 + 3 ≤ length frame
 
+-- the sums of its length byte and message
+pub record Summed (frame : List ℕ) (sums : Sums) : Type 0 where
+  pub are : sums ≡ sumsOf (take (getD frame 0 0 + 1) frame)
+
 -- an entry of the table of digits: the digit's value, or 16 where there is none
 abbrev pub Entry : Option ℕ → ℕ → Type 0
 Entry none x = x ≡ 16
@@ -121,3 +129,36 @@ skippedIn (Digit d) bytes = 0
 pub record Passed (start n : ℕ) (bytes : List ℕ) : Type 0 where
   pub within : n ≤ length bytes
   pub no-start : among start (take n bytes) ≡ false
+
+-- ---- a whole frame at once
+
+-- neither 7Dh nor 7Eh
+abbrev pub stands : ℕ → Bool
+stands b = ltb b 0x7D || ltb 0x7E b
+
+unfoldable pub allStand : List ℕ → Bool
+allStand [] = true
+allStand (b ∷ bs) = stands b && allStand bs
+
+-- whether all of a part stand for themselves, and then its sums
+pub record Plainly (part : List ℕ) (p : Standing) : Type 0 where
+  pub all : p .all ≡ allStand part
+  pub summed : p .all ≡ true → p .sums ≡ sumsOf part
+
+-- where a number is not 0
+abbrev pub IfAny : ℕ → Type 0 → Type 0
+IfAny n P = (n ≡ 0 → ⊥) → P
+
+-- n bytes that are a frame with its sums, each standing for itself
+pub record Entire (bytes : List ℕ) (n : ℕ) (sums : Sums) : Type 0 where
+  pub known : lengthOk (getD bytes 0 0) ≡ true
+  pub size : n ≡ getD bytes 0 0 + 3
+  pub inside : n ≤ length bytes
+  pub plain : allStand (take n bytes) ≡ true
+  pub summed : sums ≡ sumsOf (take (getD bytes 0 0 + 1) bytes)
+
+-- such a frame after the start at a place, between frames
+pub record EntireAt (mode : Mode) (bytes : List ℕ) (place n : ℕ) (sums : Sums) : Type 0 where
+  pub skipping : mode ≡ Skipping Binary
+  pub inside : place < length bytes
+  pub entire : Entire (drop (place + 1) bytes) n sums

@@ -1,7 +1,7 @@
 // The reader: a byte goes in, the next reader and at most one verdict come out. It is a value; a
 // read goes up to and including the first verdict's byte, or to the end.
 ghost use mathlib.Core.Path.{_≡_};
-ghost use mathlib.Core.Bool.{true};
+ghost use mathlib.Core.Bool.{true, false};
 ghost use mathlib.Core.List.{[], _∷_, _++_};
 ghost use Prim.Native.Nat.{_+_, _≤_};
 ghost use lib.ListN.{length};
@@ -13,13 +13,16 @@ ghost use Rattle.standard.specs.Stream.{upToStart};
 ghost use Rattle.reader.specs.declared.Mode.the-variants.{Skipping, Open, Escape, Digit};
 ghost use Rattle.reader.specs.Step.{beyondLength, pendingOk, soundWith, goes, takes};
 ghost use Rattle.reader.specs.Read.{soundReader, freshReader, Reads, Steps};
-ghost use Rattle.reader.specs.Decide.{stepIn, opensIn, tells, judgedOf, skippedIn, Always, Counted, Decides, Judges, Complete, Digits, Passed};
+ghost use Rattle.standard.specs.Sums.{sumsOf};
+ghost use lib.Seq.{sets};
+ghost use Rattle.reader.specs.Decide.{stepIn, opensIn, tells, judgedOf, skippedIn, stands, Always, Counted, Decides, Judges, Complete, Digits, Passed, Plainly, Summed, IfAny, Entire, EntireAt};
 
 mod digits;
 
 use digits::DIGITS;
 use standard::Framing;
 use standard::Said;
+use standard::Sums;
 use standard::Verdict;
 
 // "Read and written: 1 to 18".
@@ -56,6 +59,14 @@ pub struct Stepped {
 // What a read gives.
 pub struct Reading {
     pub reader: Reader,
+    pub used: usize,
+    pub said: Said,
+}
+
+// What a scan gives: a read whose frame's bytes stand in lent memory.
+pub struct Scanned {
+    pub mode: Mode,
+    pub held: usize,
     pub used: usize,
     pub said: Said,
 }
@@ -325,15 +336,15 @@ fn plain(number: u8) -> Verdict
     }
 }
 
-// The frame that these bytes begin with. "At that byte the order is 3, 5, 6, 7, 8": 3 needs no look
-// at them, and was decided before.
-fn judge(frame: &[u8]) -> Verdict
+// The frame that these bytes begin with, of which the sums are known. "At that byte the order is 3,
+// 5, 6, 7, 8": 3 needs no look at them, and was decided before.
+fn judge_with(frame: &[u8], sums: Sums) -> Verdict
     requires { ⌜ Complete (now frame) ⌝ }
+    requires { ⌜ Summed (now frame) sums ⌝ }
     ensures { λ r. ⌜ r ≡ verdictFor (judgedOf (now (frame .entry))) ⌝ }
 {
     let length = frame[0];
     let end = length as usize + 1;
-    let sums = sums::sums_of(&frame[..end]);
     if frame[end] != sums.one {
         return plain(5);
     }
@@ -345,6 +356,138 @@ fn judge(frame: &[u8]) -> Verdict
         number,
         type_byte: frame[1],
         length: if number == 0 { length } else { 0 },
+    }
+}
+
+// The frame that these bytes begin with.
+fn judge(frame: &[u8]) -> Verdict
+    requires { ⌜ Complete (now frame) ⌝ }
+    ensures { λ r. ⌜ r ≡ verdictFor (judgedOf (now (frame .entry))) ⌝ }
+{
+    let end = frame[0] as usize + 1;
+    let sums = sums::sums_of(&frame[..end]);
+    judge_with(frame, sums)
+}
+
+// ---- a whole frame at once
+
+// The sums of some bytes, if each of them stands for itself.
+struct Standing {
+    all: bool,
+    sums: Sums,
+}
+
+// How many bytes a whole frame has after its start, and its sums; 0: it is read byte by byte.
+struct Found {
+    end: usize,
+    sums: Sums,
+}
+
+// Whether a byte of a binary frame stands for itself: neither 7Dh nor 7Eh.
+fn stands(b: u8) -> bool
+    ensures { λ r. ⌜ r ≡ stands b ⌝ }
+{
+    b < 0x7D || 0x7E < b
+}
+
+fn not_plain() -> Standing
+    ensures { λ r. ⌜ r .all ≡ false ⌝ }
+{
+    Standing {
+        all: false,
+        sums: Sums { one: 0, two: 0 },
+    }
+}
+
+fn plain_sums(part: &[u8]) -> Standing
+    ensures { λ r. ⌜ Plainly (now (part .entry)) r ⌝ }
+{
+    let mut one: u8 = 0;
+    let mut two: u8 = 0;
+    let mut i = 0;
+    while i < part.len() {
+        let b = part[i];
+        if !stands(b) {
+            return not_plain();
+        }
+        one = sums::add(one, b);
+        two = sums::add(two, one);
+        i += 1;
+    }
+    Standing {
+        all: true,
+        sums: Sums { one, two },
+    }
+}
+
+fn none() -> Found
+    ensures { λ r. ⌜ r .end ≡ 0 ⌝ }
+{
+    Found {
+        end: 0,
+        sums: Sums { one: 0, two: 0 },
+    }
+}
+
+// The frame that begins after a start, where all its bytes are there and none is escaped.
+fn whole(bytes: &[u8]) -> Found
+    ensures { λ r. ⌜ IfAny (r .end) (Entire (now (bytes .entry)) (r .end) (r .sums)) ⌝ }
+{
+    if bytes.len() < 4 {
+        return none();
+    }
+    let length = bytes[0];
+    if !length_ok(length) {
+        return none();
+    }
+    let end = length as usize + 1;
+    if bytes.len() < end + 2 {
+        return none();
+    }
+    let found = plain_sums(&bytes[..end]);
+    if !found.all {
+        return none();
+    }
+    if !stands(bytes[end]) {
+        return none();
+    }
+    if !stands(bytes[end + 1]) {
+        return none();
+    }
+    let sums = found.sums;
+    Found { end: end + 2, sums }
+}
+
+// The same in a read, with the next start at a place.
+fn entire(mode: Mode, bytes: &[u8], at: usize) -> Found
+    ensures { λ r. ⌜ IfAny (r .end) (EntireAt mode (now (bytes .entry)) at (r .end) (r .sums)) ⌝ }
+{
+    match mode {
+        Mode::Skipping(framing) => match framing {
+            Framing::Binary => {
+                if at < bytes.len() {
+                    let from = at + 1;
+                    return whole(&bytes[from..]);
+                }
+                none()
+            }
+            Framing::Ascii => none(),
+        },
+        Mode::Open(_) => none(),
+        Mode::Escape => none(),
+        Mode::Digit(_) => none(),
+    }
+}
+
+// Lays bytes over the beginning of the part that it is lent.
+fn lay(part: &mut [u8], bytes: &[u8])
+    requires { ⌜ length (now bytes) ≤ length (now part) ⌝ }
+    ensures { λ _. ⌜ now (part .exit) ≡ sets (now (part .entry)) 0 (now (bytes .entry)) ⌝ }
+{
+    let mut i = 0;
+    while i < bytes.len() {
+        part[i] = bytes[i];
+        i += 1;
     }
 }
 
@@ -463,34 +606,39 @@ fn skipped(mode: Mode, bytes: &[u8]) -> usize
     }
 }
 
-// What a read gives, put together.
-fn answer(mode: Mode, held: usize, bytes: [u8; MOST], used: usize, said: Said) -> Reading
-    ensures { λ r. ⌜ r ≡ record { reader = record { mode = mode; held = held; bytes = bytes }; used = used; said = said } ⌝ }
+// What a scan gives, put together.
+fn gives(mode: Mode, held: usize, used: usize, said: Said) -> Scanned
+    ensures { λ r. ⌜ r ≡ record { mode = mode; held = held; used = used; said = said } ⌝ }
 {
-    Reading {
-        reader: Reader { mode, held, bytes },
+    Scanned {
+        mode,
+        held,
         used,
         said,
     }
 }
 
-// Up to and including the first verdict's byte, or to the end. A state that is not sound is handed
-// back with 12.
-pub fn read(reader: Reader, bytes: &[u8]) -> Reading
-    ensures { λ r. ⌜ Reads reader (now (bytes .entry)) (r .reader) (r .used) (r .said) ⌝ }
+// A read with the frame's bytes in lent memory, of which there are as many as a reader has.
+pub fn scan(from: Mode, count: usize, frame: &mut [u8], bytes: &[u8]) -> Scanned
+    requires { ⌜ length (now frame) ≡ longest + 3 ⌝ }
+    ensures { λ r. ⌜ Reads (record { mode = from; held = count; bytes = now (frame .entry) }) (now (bytes .entry)) (record { mode = r .mode; held = r .held; bytes = now (frame .exit) }) (r .used) (r .said) ⌝ }
 {
-    let mut mode = reader.mode;
-    let mut held = reader.held;
-    let mut frame = reader.bytes;
+    let mut mode = from;
+    let mut held = count;
     if !sound(mode, held, frame[0]) {
-        return Reading {
-            reader,
-            used: 0,
-            said: Said::Gave(plain(12)),
-        };
+        return gives(mode, held, 0, Said::Gave(plain(12)));
+    }
+    let mut i = skipped(mode, bytes);
+    let all = entire(mode, bytes, i);
+    if all.end != 0 {
+        let first = i + 1;
+        let end = first + all.end;
+        let sums = all.sums;
+        let verdict = judge_with(&bytes[first..end], sums);
+        lay(frame, &bytes[first..end]);
+        return gives(mode, 0, end, Said::Gave(verdict));
     }
     let digits = digit_table();
-    let mut i = skipped(mode, bytes);
     while i < bytes.len() {
         let decision = decide(mode, held, frame[0], bytes[i], &digits);
         if decision.keep {
@@ -503,15 +651,36 @@ pub fn read(reader: Reader, bytes: &[u8]) -> Reading
         match outcome {
             Outcome::Nothing => {}
             Outcome::Number => {
-                return answer(mode, held, frame, i, Said::Gave(plain(decision.number)));
+                return gives(mode, held, i, Said::Gave(plain(decision.number)));
             }
             Outcome::Judgement => {
-                let verdict = judge(&frame);
-                return answer(mode, held, frame, i, Said::Gave(verdict));
+                let verdict = judge(frame);
+                return gives(mode, held, i, Said::Gave(verdict));
             }
         }
     }
-    answer(mode, held, frame, i, Said::Silent)
+    gives(mode, held, i, Said::Silent)
+}
+
+// Up to and including the first verdict's byte, or to the end. A state that is not sound is handed
+// back with 12.
+pub fn read(reader: Reader, bytes: &[u8]) -> Reading
+    ensures { λ r. ⌜ Reads reader (now (bytes .entry)) (r .reader) (r .used) (r .said) ⌝ }
+{
+    let mode = reader.mode;
+    let mut frame = reader.bytes;
+    let answer = scan(mode, reader.held, &mut frame, bytes);
+    let next = answer.mode;
+    let said = answer.said;
+    Reading {
+        reader: Reader {
+            mode: next,
+            held: answer.held,
+            bytes: frame,
+        },
+        used: answer.used,
+        said,
+    }
 }
 
 impl Reader {

@@ -6,7 +6,7 @@ ghost use Rattle.standard.specs.Sums.{sumsOf};
 use standard::Sums;
 
 // The lines that document 003 writes for each of its two sums.
-fn add(mut sum: u8, b: u8) -> u8
+pub fn add(mut sum: u8, b: u8) -> u8
     ensures { λ r. ⌜ r ≡ (sum + b) % 255 ⌝ }
 {
     if 255 - sum < b {

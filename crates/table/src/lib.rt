@@ -176,7 +176,9 @@ fn put_system(table: &mut [u8], message: &[u8])
 pub fn apply(table: &mut [u8], message: &[u8]) -> u8
     ensures { λ r. ⌜ Applied (now (table .entry)) (now (message .entry)) r (now (table .exit)) ⌝ }
 {
-    let number = first_of(table_refusal(table), messages::check(message));
+    // A part of the message is handed on in registers, where the message as it came would be copied.
+    let n = message.len();
+    let number = first_of(table_refusal(table), messages::check(&message[..n]));
     if number != 0 {
         return number;
     }

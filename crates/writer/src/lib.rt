@@ -15,9 +15,6 @@ use standard::Framing;
 use standard::Sums;
 use standard::Written;
 
-// The longest body: length byte, 18 message bytes, two sums.
-const BODY: usize = 21;
-
 // "A written binary frame has at most 41 bytes, an ASCII frame at most 44."
 const FRAME: usize = 44;
 
@@ -85,18 +82,35 @@ fn put_coded(frame: &mut [u8], place: usize, b: u8, framing: Framing) -> usize
     }
 }
 
-// Some bytes so, one after another.
-fn put_all(frame: &mut [u8], place: usize, bytes: &[u8], framing: Framing) -> usize
-    requires { ⌜ place + 2 * length (now bytes) ≤ length (now frame) ⌝ }
-    ensures { λ r. ⌜ Put (now (frame .entry)) place (coding framing (now (bytes .entry))) (now (frame .exit)) r ⌝ }
+// Where the coded bytes of a message end, and its sums.
+struct Coded {
+    next: usize,
+    sums: Sums,
+}
+
+// The bytes of a message so, one after another, and the sums of its length byte and of them. A byte
+// is summed before it is coded.
+fn put_summed(frame: &mut [u8], place: usize, message: &[u8], framing: Framing) -> Coded
+    requires { ⌜ length (now message) ≤ 255 ⌝ }
+    requires { ⌜ place + 2 * length (now message) ≤ length (now frame) ⌝ }
+    ensures { λ r. ⌜ r .sums ≡ sumsOf (length (now (message .entry)) ∷ now (message .entry)) ⌝ }
+    ensures { λ r. ⌜ Put (now (frame .entry)) place (coding framing (now (message .entry))) (now (frame .exit)) (r .next) ⌝ }
 {
+    let mut one = sums::add(0, message.len() as u8);
+    let mut two = sums::add(0, one);
     let mut next = place;
     let mut i = 0;
-    while i < bytes.len() {
-        next = put_coded(frame, next, bytes[i], framing);
+    while i < message.len() {
+        let b = message[i];
+        next = put_coded(frame, next, b, framing);
+        one = sums::add(one, b);
+        two = sums::add(two, one);
         i += 1;
     }
-    next
+    Coded {
+        next,
+        sums: Sums { one, two },
+    }
 }
 
 // "Start 7Eh", "Start 0Ah".
@@ -123,38 +137,27 @@ fn put_stop(frame: &mut [u8], place: usize, framing: Framing) -> usize
     }
 }
 
-// The frame of a body.
-fn put_frame(frame: &mut [u8], body: &[u8], framing: Framing) -> usize
-    requires { ⌜ 2 * length (now body) + 2 ≤ length (now frame) ⌝ }
-    ensures { λ r. ⌜ Put (now (frame .entry)) 0 (startOf framing ∷ coding framing (now (body .entry)) ++ stopOf framing) (now (frame .exit)) r ⌝ }
+// The length of a frame, and its sums.
+struct Framed {
+    length: usize,
+    sums: Sums,
+}
+
+// "Length byte, message (type byte first), two sum bytes", between start and stop.
+fn put_frame(frame: &mut [u8], message: &[u8], framing: Framing) -> Framed
+    requires { ⌜ length (now message) ≤ 255 ⌝ }
+    requires { ⌜ 2 * length (now message) + 8 ≤ length (now frame) ⌝ }
+    ensures { λ r. ⌜ r .sums ≡ sumsOf (length (now (message .entry)) ∷ now (message .entry)) ⌝ }
+    ensures { λ r. ⌜ Put (now (frame .entry)) 0 (startOf framing ∷ coding framing (bodyOf (now (message .entry))) ++ stopOf framing) (now (frame .exit)) (r .length) ⌝ }
 {
     frame[0] = start(framing);
-    let next = put_all(frame, 1, body, framing);
-    put_stop(frame, next, framing)
-}
-
-// The length byte and the message, over which the sums go.
-fn put_message(body: &mut [u8], message: &[u8]) -> usize
-    requires { ⌜ (length (now message) ≤ 255) × (length (now message) + 1 ≤ length (now body)) ⌝ }
-    ensures { λ r. ⌜ Put (now (body .entry)) 0 (length (now (message .entry)) ∷ now (message .entry)) (now (body .exit)) r ⌝ }
-{
-    let end = message.len() + 1;
-    body[0] = message.len() as u8;
-    lay(&mut body[1..], message);
-    end
-}
-
-// "Length byte, message (type byte first), two sum bytes." The sums are summed before they are
-// coded, and coded as every other byte.
-fn put_body(body: &mut [u8], message: &[u8]) -> Sums
-    requires { ⌜ (length (now message) ≤ 255) × (length (now message) + 3 ≤ length (now body)) ⌝ }
-    ensures { λ r. ⌜ r ≡ sumsOf (length (now (message .entry)) ∷ now (message .entry)) ⌝ }
-    ensures { λ _. ⌜ Put (now (body .entry)) 0 (bodyOf (now (message .entry))) (now (body .exit)) (length (now (message .entry)) + 3) ⌝ }
-{
-    let end = put_message(body, message);
-    let sums = sums::sums_of(&body[..end]);
-    put_two(body, end, sums.one, sums.two);
-    sums
+    let first = put_coded(frame, 1, message.len() as u8, framing);
+    let coded = put_summed(frame, first, message, framing);
+    let sums = coded.sums;
+    let one = put_coded(frame, coded.next, sums.one, framing);
+    let two = put_coded(frame, one, sums.two, framing);
+    let end = put_stop(frame, two, framing);
+    Framed { length: end, sums }
 }
 
 // What is refused of a message that passed: "10, 9". No message can cause 10.
@@ -192,11 +195,10 @@ pub fn write(message: &[u8], framing: Framing, out: &mut [u8], place: usize) -> 
     if checked != 0 {
         return refused(checked);
     }
-    let mut body = [0u8; BODY];
-    let sums = put_body(&mut body, message);
-    let end = message.len() + 3;
     let mut frame = [0u8; FRAME];
-    let n = put_frame(&mut frame, &body[..end], framing);
+    let framed = put_frame(&mut frame, message, framing);
+    let sums = framed.sums;
+    let n = framed.length;
     let number = refusal(sums, n, place, out.len());
     if number != 0 {
         return refused(number);

@@ -1,10 +1,14 @@
+use Prim.Native.Nat.{_≤_}
 use native.Mathlib.Omega.{arith}
-use borrow.Author.Tests.{not-true, not-false}
-use mathlib.Core.Path.{refl, sym, ap₂, _∙_}
-use Rattle.host.proofs.Answers.{heard-read}
+use mathlib.Core.Path.{_≡_, refl, sym, ap, ap₂, _∙_}
+use mathlib.Core.Bool.{cond}
+use lib.Dec.{eqb}
+use lib.ListN.{take}
 use Rattle.standard.specs.Replies.{replyOf}
-use Rattle.nx584.specs.Boundary.{readerFor, withReply}
-use Rattle.nx584.proofs.Lines.{line-sound, read-refused, heard-line, heard-refused, took-fits, hear-refused, hear-took}
+use Rattle.standard.specs.Table.{tableAfter, appliedTo}
+use Rattle.nx584.specs.declared.LineReading.{LineReading}
+use Rattle.nx584.specs.Boundary.{withReply, lineHearing, lineRead, LineAnswer}
+use Rattle.nx584.proofs.Lines.{heard-line, heard-refused, hear-refused, reply-said, stored-line, line-short}
 use borrow.Author.Needs.{needs}
 use Rattle.nx584.proofs.nx584_hear.Statement.{statement}
 use Rattle.nx584.proofs.nx584_hear.Tie as tie
@@ -18,66 +22,41 @@ with-reply-requires c κs = search needs
 returns : tie.Need-returns
 unfolding replyOf
 returns c =
-    let start = c .before .before .before .before .before in
-    let a = start .args in
+    let a = c .before .before .before .before .before .args in
     rw (c .with-reply .ensures, c .before .refused .ensures)
     (hear-refused (a .reader) (a .table .now) (a .bytes .now) 11 (heard-refused (a .reader) (a .table .now) (a .bytes .now) (c .before .before .if1 .taken)) refl (λ e. omega arith))
 
-sound-line-requires : tie.Need-sound-line-requires
-sound-line-requires c κs = search needs
+nx584-read-requires : tie.Need-nx584-read-requires
+nx584-read-requires c κs = search needs
 
-refused-requires-2 : tie.Need-refused-requires-2
-refused-requires-2 c κs = search needs
+store-requires : tie.Need-store-requires
+store-requires c κs = rw (c .before .nx584-read .ensures) (line-short (c .before .before .before .before .before .args .reader) (c .before .before .before .before .before .args .bytes .now))
+
+nx584-reply-requires : tie.Need-nx584-reply-requires
+nx584-reply-requires c κs = search needs
 
 with-reply-requires-2 : tie.Need-with-reply-requires-2
 with-reply-requires-2 c κs = search needs
 
-returns-2 : tie.Need-returns-2
-unfolding replyOf
-returns-2 c =
-    let start = c .before .before .before .before .before .before .before in
-    let a = start .args in
-    let h = sym (c .before .before .before .sound-line .ensures) ∙ not-true _ (c .before .before .if2 .taken) in
-    let w = c .before .before .before .before .if1 .left in
-    rw (c .with-reply2 .ensures, c .before .refused2 .ensures)
-    (hear-refused (a .reader) (a .table .now) (a .bytes .now) 12 (heard-line (a .reader) (a .table .now) (a .bytes .now) w ∙ read-refused (a .reader) (a .bytes .now) h) refl (λ e. omega arith))
-
-reader-for-requires : tie.Need-reader-for-requires
-reader-for-requires c κs = search needs
-
-hear-requires : tie.Need-hear-requires
-hear-requires c κs = search needs
-
-took-requires : tie.Need-took-requires
-took-requires c κs =
-    let start = c .before .before .before .before .before .before .before .before .before .before .before in
-    let a = start .args in
-    let h = sym (c .before .before .before .before .before .before .before .sound-line .ensures) ∙ not-false _ (c .before .before .before .before .before .before .if2 .left) in
-    let hear = c .before .before .before .hear in
-    let p = rw (c .before .before .before .before .before .reader-for .ensures) at (hear .ensures) in
-    let w = c .before .before .before .before .before .before .before .before .if1 .left in
-    took-fits (readerFor (a .reader)) (a .bytes .now) (hear .result .reader) (hear .result .said) (line-sound (a .reader) h)
-    (rw (heard-read (readerFor (a .reader)) (a .table .now) (a .bytes .now) w) at (p .gives))
-
-reply-number-requires : tie.Need-reply-number-requires
-reply-number-requires c κs = search needs
-
-with-reply-requires-3 : tie.Need-with-reply-requires-3
-with-reply-requires-3 c κs = search needs
-
 same-length : tie.Need-same-length
 same-length c = search needs
 
-returns-3 : tie.Need-returns-3
-returns-3 c =
-    let start = c .before .before .before .before .before .before .before .before .before .before .before .before .before .before in
-    let a = start .args in
-    let hear = c .before .before .before .before .before .before .hear in
-    let h = sym (c .before .before .before .before .before .before .before .before .before .before .sound-line .ensures) ∙ not-false _ (c .before .before .before .before .before .before .before .before .before .if2 .left) in
-    let p = rw (c .before .before .before .before .before .before .before .before .reader-for .ensures) at (hear .ensures) in
-    let w = c .before .before .before .before .before .before .before .before .before .before .before .if1 .left in
-    hear-took (a .reader) (a .table .now) (a .bytes .now) (hear .result .reader) (hear .result .used) (hear .result .said) (hear .result .reply) _ _ w h p
-    (c .with-reply3 .ensures ∙ ap₂ withReply (c .before .before .took .ensures) (c .before .reply-number .ensures))
+returns-2 : tie.Need-returns-2
+returns-2 c =
+    let args = c .before .before .before .before .before .before .before .before .before .before .args in
+    let t = args .table .now in
+    let read = c .before .before .before .before .before .before .nx584-read .ensures in
+    let a = lineRead (args .reader) (args .bytes .now) in
+    let line = heard-line (args .reader) t (args .bytes .now) (c .before .before .before .before .before .before .before .if1 .left) in
+    let reply = c .before .nx584-reply .ensures ∙ ap (λ (x : LineReading). replyOf (x .verdict) (x .«type_byte»)) read ∙ reply-said (a .said) in
+    record {
+      says = c .with-reply2 .ensures ∙ ap₂ withReply read reply ∙ sym (ap lineHearing line);
+      leaves =
+          c .before .before .before .before .store .ensures
+          ∙ ap (λ (x : LineReading). cond (eqb (x .verdict) 0) (appliedTo t (take (x .length) (x .message))) t) read
+          ∙ stored-line (args .reader) t (args .bytes .now)
+          ∙ sym (ap (λ (x : LineAnswer). tableAfter t (x .said)) line);
+    }
 
 pub nx584-hear-spec : {M : Type 1} → statement M
 nx584-hear-spec =
@@ -86,14 +65,9 @@ nx584-hear-spec =
     refused-requires
     with-reply-requires
     returns
-    sound-line-requires
-    refused-requires-2
+    nx584-read-requires
+    store-requires
+    nx584-reply-requires
     with-reply-requires-2
-    returns-2
-    reader-for-requires
-    hear-requires
-    took-requires
-    reply-number-requires
-    with-reply-requires-3
     same-length
-    returns-3)
+    returns-2)

@@ -1,13 +1,14 @@
 -- `table::apply` meets its contract: refusals in their order, and for a message that is taken the writes of its number. Assumes nothing.
 use Prim.Native.Nat.{ℕ}
-use mathlib.Core.Path.{_≡_, refl, sym, ap₂, _∙_}
+use mathlib.Core.Path.{_≡_, refl, sym, ap, ap₂, _∙_}
 use mathlib.Core.Bool.{cond}
 use mathlib.Core.List.{List}
 use lib.Dec.{eqb}
 use lib.ListN.{length}
+use lib.Seq.{take-length}
 use borrow.Author.Needs.{needs}
 use Rattle.standard.specs.Words.{byte}
-use Rattle.standard.specs.Messages.{known, lengthIn, numberOf}
+use Rattle.standard.specs.Messages.{known, lengthIn, numberOf, checkOf}
 use Rattle.standard.specs.Table.{writesOf, applyRefusal}
 use Rattle.standard.proofs.Messages.{passed, passed-number, passed-offset, passed-partition}
 use Rattle.standard.proofs.Applied.{refusal-after, Taken, taken-by, refused-applied, taken-applied, none-written}
@@ -16,19 +17,19 @@ use Rattle.table.proofs.apply.Tie as tie
 
 -- the two refusals are asked in the definition's order
 number : (c : tie.After-first-of)
-    → let a = c .before .before .before .before .before .before .args in c .first-of .result ≡ applyRefusal (a .table .now) (a .message .now)
+    → let a = c .before .before .before .before .before .before .before .args in c .first-of .result ≡ applyRefusal (a .table .now) (a .message .now)
 number c =
-    let a = c .before .before .before .before .before .before .args in
+    let a = c .before .before .before .before .before .before .before .args in
     c .first-of .ensures
-    ∙ ap₂ (λ (x y : ℕ). cond (eqb x 0) y x) (c .before .before .table-refusal .ensures) (c .before .check .ensures)
+    ∙ ap₂ (λ (x y : ℕ). cond (eqb x 0) y x) (c .before .before .before .table-refusal .ensures) (c .before .check .ensures ∙ ap checkOf (take-length (a .message .now)))
     ∙ sym (refusal-after (a .table .now) (a .message .now))
 
 -- past them: the table, the message, and that it is taken
 abbrev tableOf : tie.Else1 → List ℕ
-tableOf c = c .before .before .before .before .before .before .before .args .table .now
+tableOf c = c .before .before .before .before .before .before .before .before .args .table .now
 
 abbrev messageOf : tie.Else1 → List ℕ
-messageOf c = c .before .before .before .before .before .before .before .args .message .now
+messageOf c = c .before .before .before .before .before .before .before .before .args .message .now
 
 taken : (c : tie.Else1) {n : ℕ} → numberOf (byte 1 (messageOf c)) ≡ n → Taken n (tableOf c) (messageOf c)
 taken c e = let k = taken-by (tableOf c) (messageOf c) (sym (number (c .before)) ∙ c .if1 .left) in record { number = e; whole = k .whole; good = k .good }
@@ -39,6 +40,9 @@ sized c {n} e = passed-number (messageOf c) n (passed (messageOf c) (taken c e .
 
 table-refusal-requires : tie.Need-table-refusal-requires
 table-refusal-requires c κs = search needs
+
+slice-aggregate-check : tie.Need-slice-aggregate-check
+slice-aggregate-check c = ap length (sym (take-length (c .before .before .before .before .before .args .message .now)))
 
 check-requires : tie.Need-check-requires
 check-requires c κs = search needs
@@ -51,7 +55,7 @@ same-length c = search needs
 
 returns : tie.Need-returns
 returns c =
-    let a = c .before .before .before .before .before .before .before .args in
+    let a = c .before .before .before .before .before .before .before .before .args in
     refused-applied (a .table .now) (a .message .now) (number (c .before)) (c .if1 .taken)
 
 shared-slice-read-match : tie.Need-shared-slice-read-match
@@ -129,6 +133,7 @@ apply-spec =
     tie.close
     (tie.spec
     table-refusal-requires
+    slice-aggregate-check
     check-requires
     first-of-requires
     same-length

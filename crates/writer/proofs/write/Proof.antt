@@ -1,4 +1,4 @@
--- `writer::write` meets its contract: the body and the frame are built in arrays that hold the longest, both refusals are the definition's,
+-- `writer::write` meets its contract: the frame is built in an array that holds the longest, both refusals are the definition's,
 -- and the frame is put into the part that is lent. Assumes nothing.
 use Prim.Native.Nat.{ℕ, _+_, _-_, _≤_}
 use native.Mathlib.Nat.{zero-add}
@@ -33,10 +33,10 @@ abbrev passed-at : tie.Else1 → tie.Start
 passed-at c = c .before .before .before .before
 
 abbrev built-at : tie.After-put-frame → tie.Start
-built-at c = passed-at (c .before .before .before .before .before .before)
+built-at c = passed-at (c .before .before)
 
 abbrev refusal-at : tie.After-refusal → tie.Start
-refusal-at c = built-at (c .before .before)
+refusal-at c = built-at (c .before .before .before)
 
 -- the message passed
 good : (c : tie.Else1) → checkOf (message (passed-at c)) ≡ 0
@@ -59,30 +59,11 @@ returns c =
     let first = first-refusal (message s) (s .args .framing) (out s) (s .args .place) (λ e. bad (is ∙ e)) in
     rw (c .refused .ensures) (told-refused (message s) (s .args .framing) (out s) (s .args .place) (c .before .before .check .result) (first ∙ sym is) bad)
 
-slice-aggregate-put-body : tie.Need-slice-aggregate-put-body
-slice-aggregate-put-body c = search needs
-
-put-body-requires : tie.Need-put-body-requires
-put-body-requires c κs = let h = few (c .before) in (omega arith, omega arith)
-
-add-end : tie.Need-add-end
-add-end c = search needs
-
 slice-aggregate-put-frame : tie.Need-slice-aggregate-put-frame
 slice-aggregate-put-frame c = search needs
 
--- the body, as it is lent
-body-fits : (c : tie.After-put-body) → length (message (passed-at (c .before .before))) + 3 ≤ length (c .put-body .last .0)
-body-fits c = let h = few (c .before .before) in omega (arith, put-length (c .put-body .ensures .1))
-
-array-share-prefix-body : tie.Need-array-share-prefix-body
-array-share-prefix-body c = let h = body-fits (c .before .before) in omega arith
-
-slice-aggregate-put-frame-2 : tie.Need-slice-aggregate-put-frame-2
-slice-aggregate-put-frame-2 c = let h = body-fits (c .before .before .before) in sym (length-take-le _ _ (omega arith))
-
 put-frame-requires : tie.Need-put-frame-requires
-put-frame-requires c κs = let h = few (c .before .before .before .before .before) in simp length-take (omega arith)
+put-frame-requires c κs = let h = few (c .before) in (omega arith, omega arith)
 
 -- the frame, built
 record Built (m : List ℕ) (f : Framing) (frame : List ℕ) (n : ℕ) : Type 0 where
@@ -90,30 +71,25 @@ record Built (m : List ℕ) (f : Framing) (frame : List ℕ) (n : ℕ) : Type 0 
   within : n ≤ length frame
   front : take n frame ≡ frameOf f m
 
-frame-built : (m : List ℕ) (f : Framing) (body zeros frame : List ℕ) (n : ℕ) → checkOf m ≡ 0 → length zeros ≡ 44 → body ≡ bodyOf m
-    → Put zeros 0 (startOf f ∷ coding f body ++ stopOf f) frame n → Built m f frame n
+frame-built : (m : List ℕ) (f : Framing) (zeros frame : List ℕ) (n : ℕ) → checkOf m ≡ 0 → length zeros ≡ 44
+    → Put zeros 0 (startOf f ∷ coding f (bodyOf m) ++ stopOf f) frame n → Built m f frame n
 unfolding frameOf
-frame-built m f body zeros frame n h z e p =
-    let put : Put zeros 0 (frameOf f m) frame n = rw e at p in
+frame-built m f zeros frame n h z put =
     let long : n ≡ length (frameOf f m) = put .end ∙ zero-add _ in
     let some = frame-few f m h in
     let most = most-few f in
     let same = put-length put in
     record { long = long; within = omega arith; front = put-front put (omega arith) }
 
-built : (c : tie.After-put-frame) → Built (message (built-at c)) (built-at c .args .framing) (c .put-frame .last .0) (c .put-frame .result)
-built c =
-    let body = c .before .before .before .before in
-    let h = few (body .before .before) in
-    frame-built _ _ _ _ _ _ (good (body .before .before)) refl (put-front (body .put-body .ensures .1) (omega arith)) (c .put-frame .ensures)
+built : (c : tie.After-put-frame) → Built (message (built-at c)) (built-at c .args .framing) (c .put-frame .last .0) (c .put-frame .result .length)
+built c = frame-built _ _ _ _ _ (good (c .before .before)) refl (c .put-frame .ensures .1)
 
 -- the later refusal is the definition's
 told : (c : tie.After-refusal)
     → writeRefusal (message (refusal-at c)) (refusal-at c .args .framing) (out (refusal-at c)) (refusal-at c .args .place) ≡ c .refusal .result
 told c =
-    let frame = c .before .before in
-    let body = frame .before .before .before .before in
-    later-refusal _ _ _ _ (body .put-body .result) (frame .put-frame .result) (good (body .before .before)) (body .put-body .ensures .0) (built frame .long)
+    let frame = c .before .before .before in
+    later-refusal _ _ _ _ (frame .put-frame .result .sums) (frame .put-frame .result .length) (good (frame .before .before)) (frame .put-frame .ensures .0) (built frame .long)
     ∙ sym (c .refusal .ensures)
 
 -- the frame fits
@@ -121,10 +97,9 @@ record Room (s : tie.Start) (n : ℕ) : Type 0 where
   place : s .args .place ≤ length (out s)
   frame : n ≤ length (out s) - s .args .place
 
-room : (c : tie.Else2) → Room (refusal-at (c .before)) (c .before .before .before .put-frame .result)
+room : (c : tie.Else2) → Room (refusal-at (c .before)) (c .before .before .before .before .put-frame .result .length)
 room c =
-    let body = c .before .before .before .before .before .before .before in
-    let told = fit (body .put-body .result) _ _ _ (sym (c .before .refusal .ensures) ∙ c .if2 .left) in
+    let told = fit (c .before .before .before .before .put-frame .result .sums) _ _ _ (sym (c .before .refusal .ensures) ∙ c .if2 .left) in
     record { place = told .0; frame = told .1 }
 
 refusal-requires : tie.Need-refusal-requires
@@ -148,15 +123,15 @@ part-lay-end : tie.Need-part-lay-end
 part-lay-end c = search needs
 
 array-share-prefix-frame : tie.Need-array-share-prefix-frame
-array-share-prefix-frame c = built (c .before .before .before .before) .within
+array-share-prefix-frame c = built (c .before .before .before .before .before) .within
 
 slice-aggregate-lay : tie.Need-slice-aggregate-lay
-slice-aggregate-lay c = sym (length-take-le _ _ (built (c .before .before .before .before .before) .within))
+slice-aggregate-lay c = sym (length-take-le _ _ (built (c .before .before .before .before .before .before) .within))
 
 lay-requires : tie.Need-lay-requires
 lay-requires c κs =
     let h = room (c .before .before) in
-    rw (length-take-le _ _ (built (c .before .before .before .before .before) .within)) (simp (length-take, length-drop) (omega arith))
+    rw (length-take-le _ _ (built (c .before .before .before .before .before .before) .within)) (simp (length-take, length-drop) (omega arith))
 
 same-length : tie.Need-same-length
 same-length c = search needs
@@ -166,10 +141,10 @@ returns-3 c =
     let lay = c .before .before in
     let fits = lay .before .before .before in
     let s = refusal-at (fits .before) in
-    let b = built (fits .before .before .before) in
+    let b = built (fits .before .before .before .before) in
     let r = room fits in
     let frame = frameOf (s .args .framing) (message s) in
-    let long : fits .before .before .before .put-frame .result ≡ length frame = b .long in
+    let long : fits .before .before .before .before .put-frame .result .length ≡ length frame = b .long in
     let h : s .args .place + length frame ≤ length (out s) = omega arith in
     let stored = lay .lay .ensures ∙ ap (sets (take (length (out s) - s .args .place) (drop (s .args .place) (out s))) 0) (b .front) in
     told-written (message s) (s .args .framing) (out s) (s .args .place) _ _ (told (fits .before) ∙ fits .if2 .left) long
@@ -182,12 +157,7 @@ write-spec =
     check-requires
     refused-requires
     returns
-    slice-aggregate-put-body
-    put-body-requires
-    add-end
     slice-aggregate-put-frame
-    array-share-prefix-body
-    slice-aggregate-put-frame-2
     put-frame-requires
     refusal-requires
     refused-requires-2

@@ -1,0 +1,48 @@
+use native.Mathlib.Omega.{arith}
+use mathlib.Core.Path.{_≡_, sym, _∙_}
+use Prim.Native.Nat.{_≤_}
+use lib.ListN.{length}
+use lib.Seq.{length-take-le}
+use borrow.Author.Tests.{eq-eqb, ne-eqb}
+use borrow.Author.Needs.{needs}
+use Rattle.nx584.proofs.store.Statement.{statement}
+use Rattle.nx584.proofs.store.Tie as tie
+
+cast-n : tie.Need-cast-n
+cast-n c = search needs
+
+array-share-prefix-message : tie.Need-array-share-prefix-message
+array-share-prefix-message c =
+    let s = c .before .before .before .before .before .before in
+    let size : length (s .args .reading .message) ≡ 18 = search needs in
+    omega (arith, s .pre)
+
+slice-aggregate-apply : tie.Need-slice-aggregate-apply
+slice-aggregate-apply c =
+    let s = c .before .before .before .before .before .before .before in
+    let size : length (s .args .reading .message) ≡ 18 = search needs in
+    sym (length-take-le _ _ (omega (arith, s .pre)))
+
+apply-requires : tie.Need-apply-requires
+apply-requires c κs = search needs
+
+same-length : tie.Need-same-length
+same-length c = search needs
+
+returns : tie.Need-returns
+returns c = rw (eq-eqb _ _ (c .before .before .before .before .before .if1 .taken)) (c .before .before .apply .ensures .leaves)
+
+returns-2 : tie.Need-returns-2
+returns-2 c = rw (ne-eqb _ _ (c .if1 .left))
+
+pub store-spec : {M : Type 1} → statement M
+store-spec =
+    tie.close
+    (tie.spec
+    cast-n
+    array-share-prefix-message
+    slice-aggregate-apply
+    apply-requires
+    same-length
+    returns
+    returns-2)
