@@ -14,7 +14,7 @@ use Rattle.standard.specs.Table.{tableBytes, fresh, appliedTo, tableAfter}
 use Rattle.standard.proofs.Words.{map-append}
 use Rattle.standard.proofs.Applied.{applied-length}
 use Rattle.reader.specs.declared.Reader.{Reader}
-use Rattle.reader.specs.Read.{freshReader, Answer, readOf}
+use Rattle.reader.specs.Read.{freshReader, Given, readOf}
 use Rattle.reader.specs.Calls.{joined, handedBefore, callsOf, drive, Calls}
 use Rattle.reader.specs.Calls.{finished as no-call, call as one-call}
 use Rattle.reader.proofs.Demand3.{reads-are-parts, any-caller}
@@ -78,7 +78,7 @@ record Calling (r : Reader) (t : List ℕ) (reads : List (List ℕ)) (heard : He
   calls : Calls r reads (heard .handed)
   heard-as : heard ≡ heardAs t (heard .handed)
 
-calling-again : (r : Reader) (t bs : List ℕ) (reads again : List (List ℕ)) (later : Heard) (a : Answer) → a ≡ readOf r bs
+calling-again : (r : Reader) (t bs : List ℕ) (reads again : List (List ℕ)) (later : Heard) (a : Given) → a ≡ readOf r bs
     → joined again ≡ drop (a .used) bs ++ joined reads → Calling (a .reader) (tableAfter t (a .said)) again later
     → Calling r t (bs ∷ reads) (alsoHeard (a .said) later)
 calling-again r t bs reads again later a e j c = record {

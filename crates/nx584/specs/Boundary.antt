@@ -17,20 +17,20 @@ use Rattle.standard.specs.declared.Said.{Said}
 use Rattle.standard.specs.declared.Said.the-variants.{Silent, Gave}
 use Rattle.standard.specs.declared.Written.{Written}
 use Rattle.standard.specs.Writer.{writtenOf, afterWrite}
-use Rattle.standard.specs.Table.{tableBytes, tableAfter}
+use Rattle.standard.specs.Table.{isTable, tableAfter}
 use Rattle.standard.specs.Overview.{Counted, Seen}
 use Rattle.reader.specs.declared.Mode.{Mode}
 use Rattle.reader.specs.declared.Mode.the-variants.{Skipping, Open, Escape, Digit}
 use Rattle.reader.specs.declared.Reader.{Reader}
 use Rattle.reader.specs.Step.{framingOf}
-use Rattle.reader.specs.Read.{Answer, soundReader, readOf}
+use Rattle.reader.specs.Read.{Given, soundReader, readOf}
 use Rattle.host.specs.Hear.{replyTo}
-use Rattle.nx584.specs.declared.LineReader.{LineReader}
-use Rattle.nx584.specs.declared.LineReading.{LineReading}
-use Rattle.nx584.specs.declared.LineHearing.{LineHearing}
-use Rattle.nx584.specs.declared.LineWritten.{LineWritten}
-use Rattle.nx584.specs.declared.LineGroup.{LineGroup}
-use Rattle.nx584.specs.declared.LineOverview.{LineOverview}
+use Rattle.nx584.specs.declared.CReader.{CReader}
+use Rattle.nx584.specs.declared.CReading.{CReading}
+use Rattle.nx584.specs.declared.CHearing.{CHearing}
+use Rattle.nx584.specs.declared.CWritten.{CWritten}
+use Rattle.nx584.specs.declared.CGroup.{CGroup}
+use Rattle.nx584.specs.declared.COverview.{COverview}
 
 -- ---- a reader in numbers
 
@@ -63,11 +63,11 @@ pendingFor Ascii mode digit = cond (eqb mode 3) (Digit digit) (Open Ascii)
 abbrev pub modeFor : Framing → ℕ → ℕ → Mode
 modeFor f mode digit = cond (eqb mode 0) (Skipping f) (pendingFor f mode digit)
 
-abbrev pub readerFor : LineReader → Reader
+abbrev pub readerFor : CReader → Reader
 readerFor c = record { mode = modeFor (framingFor (c .framing)) (c .mode) (c .digit); held = c .held; bytes = c .bytes }
 
-abbrev pub lineReader : Reader → LineReader
-lineReader r = record {
+abbrev pub cReader : Reader → CReader
+cReader r = record {
   framing = framingNumber (framingOf (r .mode));
   mode = modeNumber (r .mode);
   digit = digitNumber (r .mode);
@@ -76,8 +76,8 @@ lineReader r = record {
 }
 
 -- "another mode is unsound", "a mode 3 digit at most 15, in both", and document 01's soundness
-unfoldable pub soundLine : LineReader → Bool
-soundLine c = leb (c .mode) 3 && (cond (eqb (c .mode) 3) (leb (c .digit) 15) true && soundReader (readerFor c))
+unfoldable pub soundC : CReader → Bool
+soundC c = leb (c .mode) 3 && (cond (eqb (c .mode) 3) (leb (c .digit) 15) true && soundReader (readerFor c))
 
 -- ---- what was said, in numbers
 
@@ -110,29 +110,29 @@ padded m = laid (replicate longest 0) 0 m
 
 -- ---- what is promised
 
-pub record LineAnswer : Type 0 where
-  pub reader : LineReader
+pub record CGiven : Type 0 where
+  pub reader : CReader
   pub used : ℕ
   pub said : List Handed
 
 -- "On 11 and 12 every field of the reader comes back as handed in", and no byte is used
-abbrev pub lineRefused : LineReader → ℕ → LineAnswer
-lineRefused c number = record { reader = c; used = 0; said = handing number [] ∷ [] }
+abbrev pub cRefused : CReader → ℕ → CGiven
+cRefused c number = record { reader = c; used = 0; said = handing number [] ∷ [] }
 
-abbrev pub lineTook : Answer → LineAnswer
-lineTook a = record { reader = lineReader (a .reader); used = a .used; said = a .said }
+abbrev pub cTook : Given → CGiven
+cTook a = record { reader = cReader (a .reader); used = a .used; said = a .said }
 
 -- a read
-unfoldable pub lineRead : LineReader → List ℕ → LineAnswer
-lineRead c bs = cond (soundLine c) (lineTook (readOf (readerFor c) bs)) (lineRefused c 12)
+unfoldable pub cRead : CReader → List ℕ → CGiven
+cRead c bs = cond (soundC c) (cTook (readOf (readerFor c) bs)) (cRefused c 12)
 
 -- a read with a table: 11, then 12
-unfoldable pub lineHeard : LineReader → List ℕ → List ℕ → LineAnswer
-lineHeard c t bs = cond (eqb (length t) tableBytes) (lineRead c bs) (lineRefused c 11)
+unfoldable pub cHeard : CReader → List ℕ → List ℕ → CGiven
+cHeard c t bs = cond (isTable t) (cRead c bs) (cRefused c 11)
 
 -- an answer of `nx584_read` and `nx584_step`
-abbrev pub lineReading : LineAnswer → LineReading
-lineReading a = record {
+abbrev pub cReading : CGiven → CReading
+cReading a = record {
   reader = a .reader;
   used = a .used;
   verdict = numberSaid (a .said);
@@ -142,7 +142,7 @@ lineReading a = record {
 }
 
 -- a reading, with the reply to its verdict
-abbrev pub withReply : LineReading → ℕ → LineHearing
+abbrev pub withReply : CReading → ℕ → CHearing
 withReply l reply = record {
   reader = l .reader;
   used = l .used;
@@ -154,26 +154,26 @@ withReply l reply = record {
 }
 
 -- an answer of `nx584_hear`
-abbrev pub lineHearing : LineAnswer → LineHearing
-lineHearing a = withReply (lineReading a) (replyTo (a .said))
+abbrev pub cHearing : CGiven → CHearing
+cHearing a = withReply (cReading a) (replyTo (a .said))
 
 -- what `nx584_hear` promises: its answer, and every byte of the table
-pub record LineHears (c : LineReader) (t bs : List ℕ) (answer : LineHearing) (after : List ℕ) : Type 0 where
-  pub says : answer ≡ lineHearing (lineHeard c t bs)
-  pub leaves : after ≡ tableAfter t (lineHeard c t bs .said)
+pub record CHears (c : CReader) (t bs : List ℕ) (answer : CHearing) (after : List ℕ) : Type 0 where
+  pub says : answer ≡ cHearing (cHeard c t bs)
+  pub leaves : after ≡ tableAfter t (cHeard c t bs .said)
 
 -- the writer's answer
-abbrev pub lineWritten : Written → LineWritten
-lineWritten w = record { number = w .number; length = w .length }
+abbrev pub cWritten : Written → CWritten
+cWritten w = record { number = w .number; length = w .length }
 
 -- what `nx584_write` promises: its answer, and every byte of the buffer
-pub record LineWrote (m : List ℕ) (framing : ℕ) (out : List ℕ) (place : ℕ) (answer : LineWritten) (after : List ℕ) : Type 0 where
-  pub says : answer ≡ lineWritten (writtenOf m (framingFor framing) out place)
+pub record CWrote (m : List ℕ) (framing : ℕ) (out : List ℕ) (place : ℕ) (answer : CWritten) (after : List ℕ) : Type 0 where
+  pub says : answer ≡ cWritten (writtenOf m (framingFor framing) out place)
   pub leaves : after ≡ afterWrite m (framingFor framing) out place
 
 -- "known is 1 exactly if heard > 0. Where it is 0, share is a NaN"
-abbrev pub lineGroup : Counted → LineGroup
-lineGroup g = record {
+abbrev pub cGroup : Counted → CGroup
+cGroup g = record {
   heard = g .heard;
   faulted = g .faulted;
   known = cond (eqb (g .heard) 0) 0 1;
@@ -181,5 +181,5 @@ lineGroup g = record {
 }
 
 -- an answer of `nx584_view`
-abbrev pub lineOverview : Seen → LineOverview
-lineOverview s = record { number = s .number; groups = map lineGroup (s .groups); site = lineGroup (s .site) }
+abbrev pub cOverview : Seen → COverview
+cOverview s = record { number = s .number; groups = map cGroup (s .groups); site = cGroup (s .site) }

@@ -20,7 +20,7 @@ ghost use Rattle.standard.specs.Replies.{replyNumber, replyOf};
 ghost use Rattle.standard.specs.Table.{Applied, appliedTo};
 ghost use Rattle.standard.specs.Overview.{seenOf, shareNumber, groupValues};
 ghost use Rattle.reader.specs.Read.{freshReader};
-ghost use Rattle.nx584.specs.Boundary.{framingFor, framingNumber, pendingFor, readerFor, lineReader, soundLine, lengthSaid, numbersSaid, padded, lineRefused, lineReading, withReply, lineRead, LineHears, LineWrote, lineGroup, lineOverview};
+ghost use Rattle.nx584.specs.Boundary.{framingFor, framingNumber, pendingFor, readerFor, cReader, soundC, lengthSaid, numbersSaid, padded, cRefused, cReading, withReply, cRead, CHears, CWrote, cGroup, cOverview};
 
 // NX584_LONGEST: the most bytes of a message.
 const LONGEST: usize = 18;
@@ -31,7 +31,7 @@ const MOST: usize = LONGEST + 3;
 // A reader: framing 0 is binary, any other ASCII; mode 0 skipping, 1 in a frame, 2 after a 7Dh,
 // 3 a digit pending.
 #[repr(C)]
-pub struct LineReader {
+pub struct CReader {
     pub framing: u8,
     pub mode: u8,
     pub digit: u8,
@@ -41,8 +41,8 @@ pub struct LineReader {
 
 // A read: the verdict or 255, the type byte or 0, the message and zeros.
 #[repr(C)]
-pub struct LineReading {
-    pub reader: LineReader,
+pub struct CReading {
+    pub reader: CReader,
     pub used: usize,
     pub verdict: u8,
     pub type_byte: u8,
@@ -52,14 +52,14 @@ pub struct LineReading {
 
 // The writer's answer.
 #[repr(C)]
-pub struct LineWritten {
+pub struct CWritten {
     pub number: u8,
     pub length: usize,
 }
 
 // The counts of a group or of the site; where known is 0 the share is a NaN.
 #[repr(C)]
-pub struct LineGroup {
+pub struct CGroup {
     pub heard: u16,
     pub faulted: u16,
     pub known: u8,
@@ -68,16 +68,16 @@ pub struct LineGroup {
 
 // The overview.
 #[repr(C)]
-pub struct LineOverview {
+pub struct COverview {
     pub number: u8,
-    pub groups: [LineGroup; 16],
-    pub site: LineGroup,
+    pub groups: [CGroup; 16],
+    pub site: CGroup,
 }
 
 // A read, the reply to its verdict, and the message put into the table.
 #[repr(C)]
-pub struct LineHearing {
-    pub reader: LineReader,
+pub struct CHearing {
+    pub reader: CReader,
     pub used: usize,
     pub verdict: u8,
     pub type_byte: u8,
@@ -126,7 +126,7 @@ fn pending_for(framing: Framing, mode: u8, digit: u8) -> Mode
     }
 }
 
-fn reader_for(c: LineReader) -> Reader
+fn reader_for(c: CReader) -> Reader
     ensures { λ r. ⌜ r ≡ readerFor c ⌝ }
 {
     let framing = framing_for(c.framing);
@@ -143,36 +143,36 @@ fn reader_for(c: LineReader) -> Reader
     }
 }
 
-fn line_reader(reader: Reader) -> LineReader
+fn c_reader(reader: Reader) -> CReader
     requires { ⌜ reader .held ≤ 65535 ⌝ }
-    ensures { λ r. ⌜ r ≡ lineReader reader ⌝ }
+    ensures { λ r. ⌜ r ≡ cReader reader ⌝ }
 {
     let mode = reader.mode;
     let bytes = reader.bytes;
     let held = reader.held as u16;
     match mode {
-        Mode::Skipping(f) => LineReader {
+        Mode::Skipping(f) => CReader {
             framing: framing_number(f),
             mode: 0,
             digit: 0,
             held: held,
             bytes: bytes,
         },
-        Mode::Open(f) => LineReader {
+        Mode::Open(f) => CReader {
             framing: framing_number(f),
             mode: 1,
             digit: 0,
             held: held,
             bytes: bytes,
         },
-        Mode::Escape => LineReader {
+        Mode::Escape => CReader {
             framing: 0,
             mode: 2,
             digit: 0,
             held: held,
             bytes: bytes,
         },
-        Mode::Digit(d) => LineReader {
+        Mode::Digit(d) => CReader {
             framing: 1,
             mode: 3,
             digit: d,
@@ -192,12 +192,12 @@ fn share_number(share: Share) -> f64
     }
 }
 
-fn line_group(group: Group) -> LineGroup
-    ensures { λ r. ⌜ r ≡ lineGroup (groupValues group) ⌝ }
+fn c_group(group: Group) -> CGroup
+    ensures { λ r. ⌜ r ≡ cGroup (groupValues group) ⌝ }
 {
     let share = group.share;
     let heard = group.heard;
-    LineGroup {
+    CGroup {
         heard: heard,
         faulted: group.faulted,
         known: if heard == 0 { 0 } else { 1 },
@@ -220,8 +220,8 @@ fn in_array(message: &[u8]) -> [u8; LONGEST]
 }
 
 // Document 01's soundness, after which a mode that the framing does not have reads as mode 1.
-fn sound_line(c: LineReader) -> bool
-    ensures { λ r. ⌜ r ≡ soundLine c ⌝ }
+fn sound_c(c: CReader) -> bool
+    ensures { λ r. ⌜ r ≡ soundC c ⌝ }
 {
     if 3 < c.mode {
         return false;
@@ -236,10 +236,10 @@ fn sound_line(c: LineReader) -> bool
 }
 
 // A refusal: the reader as it was handed in.
-fn refused(c: LineReader, number: u8) -> LineReading
-    ensures { λ r. ⌜ r ≡ lineReading (lineRefused c number) ⌝ }
+fn refused(c: CReader, number: u8) -> CReading
+    ensures { λ r. ⌜ r ≡ cReading (cRefused c number) ⌝ }
 {
-    LineReading {
+    CReading {
         reader: c,
         used: 0,
         verdict: number,
@@ -264,12 +264,12 @@ fn numbers(said: Said) -> Verdict
 }
 
 // What was read, in numbers. The message is copied from the frame before the frame is: the compiler leaves no copy between.
-fn took(reader: Reader, used: usize, verdict: Verdict, message: [u8; LONGEST]) -> LineReading
+fn took(reader: Reader, used: usize, verdict: Verdict, message: [u8; LONGEST]) -> CReading
     requires { ⌜ reader .held ≤ 65535 ⌝ }
-    ensures { λ r. ⌜ r ≡ record { reader = lineReader reader; used = used; verdict = verdict .number; «type_byte» = verdict .«type_byte»; length = verdict .length; message = message } ⌝ }
+    ensures { λ r. ⌜ r ≡ record { reader = cReader reader; used = used; verdict = verdict .number; «type_byte» = verdict .«type_byte»; length = verdict .length; message = message } ⌝ }
 {
-    LineReading {
-        reader: line_reader(reader),
+    CReading {
+        reader: c_reader(reader),
         used,
         verdict: verdict.number,
         type_byte: verdict.type_byte,
@@ -278,12 +278,12 @@ fn took(reader: Reader, used: usize, verdict: Verdict, message: [u8; LONGEST]) -
     }
 }
 
-fn with_reply(reading: LineReading, reply: u8) -> LineHearing
+fn with_reply(reading: CReading, reply: u8) -> CHearing
     ensures { λ r. ⌜ r ≡ withReply reading reply ⌝ }
 {
     let reader = reading.reader;
     let message = reading.message;
-    LineHearing {
+    CHearing {
         reader,
         used: reading.used,
         verdict: reading.verdict,
@@ -295,7 +295,7 @@ fn with_reply(reading: LineReading, reply: u8) -> LineHearing
 }
 
 // A good message goes into the table.
-fn store(table: &mut [u8], reading: LineReading)
+fn store(table: &mut [u8], reading: CReading)
     requires { ⌜ reading .length ≤ 18 ⌝ }
     ensures { λ _. ⌜ now (table .exit) ≡ cond (eqb (reading .verdict) 0) (appliedTo (now (table .entry)) (take (reading .length) (reading .message))) (now (table .entry)) ⌝ }
 {
@@ -317,15 +317,15 @@ fn reply_number(reply: Reply) -> u8
     }
 }
 
-fn line_groups(groups: [Group; 16]) -> [LineGroup; 16]
-    ensures { λ r. ⌜ r ≡ map lineGroup (map groupValues groups) ⌝ }
+fn c_groups(groups: [Group; 16]) -> [CGroup; 16]
+    ensures { λ r. ⌜ r ≡ map cGroup (map groupValues groups) ⌝ }
 {
     let first = groups[0];
-    let mut lines = [line_group(first); 16];
+    let mut lines = [c_group(first); 16];
     let mut i = 0;
     while i < 16 {
         let group = groups[i];
-        lines[i] = line_group(group);
+        lines[i] = c_group(group);
         i += 1;
     }
     lines
@@ -333,18 +333,18 @@ fn line_groups(groups: [Group; 16]) -> [LineGroup; 16]
 
 // A reader that has read nothing.
 #[no_mangle]
-pub extern "C" fn nx584_fresh(framing: u8) -> LineReader
-    ensures { λ r. ⌜ r ≡ lineReader (freshReader (framingFor framing)) ⌝ }
+pub extern "C" fn nx584_fresh(framing: u8) -> CReader
+    ensures { λ r. ⌜ r ≡ cReader (freshReader (framingFor framing)) ⌝ }
 {
-    line_reader(Reader::fresh(framing_for(framing)))
+    c_reader(Reader::fresh(framing_for(framing)))
 }
 
 // Up to and including the first verdict's byte, or to the end.
 #[no_mangle]
-pub extern "C" fn nx584_read(reader: LineReader, bytes: &[u8]) -> LineReading
-    ensures { λ r. ⌜ r ≡ lineReading (lineRead reader (now (bytes .entry))) ⌝ }
+pub extern "C" fn nx584_read(reader: CReader, bytes: &[u8]) -> CReading
+    ensures { λ r. ⌜ r ≡ cReading (cRead reader (now (bytes .entry))) ⌝ }
 {
-    if !sound_line(reader) {
+    if !sound_c(reader) {
         return refused(reader, 12);
     }
     let start = reader_for(reader);
@@ -366,8 +366,8 @@ pub extern "C" fn nx584_read(reader: LineReader, bytes: &[u8]) -> LineReading
 
 // A read of one byte.
 #[no_mangle]
-pub extern "C" fn nx584_step(reader: LineReader, byte: u8) -> LineReading
-    ensures { λ r. ⌜ r ≡ lineReading (lineRead reader (byte ∷ [])) ⌝ }
+pub extern "C" fn nx584_step(reader: CReader, byte: u8) -> CReading
+    ensures { λ r. ⌜ r ≡ cReading (cRead reader (byte ∷ [])) ⌝ }
 {
     let one = [byte];
     nx584_read(reader, &one)
@@ -380,11 +380,11 @@ pub extern "C" fn nx584_write(
     framing: u8,
     out: &mut [u8],
     place: usize,
-) -> LineWritten
-    ensures { λ r. ⌜ LineWrote (now (message .entry)) framing (now (out .entry)) place r (now (out .exit)) ⌝ }
+) -> CWritten
+    ensures { λ r. ⌜ CWrote (now (message .entry)) framing (now (out .entry)) place r (now (out .exit)) ⌝ }
 {
     let written = writer::write(message, framing_for(framing), out, place);
-    LineWritten {
+    CWritten {
         number: written.number,
         length: written.length,
     }
@@ -408,23 +408,23 @@ pub extern "C" fn nx584_apply(table: &mut [u8], message: &[u8]) -> u8
 
 // The sixteen groups and the site of a table.
 #[no_mangle]
-pub extern "C" fn nx584_view(table: &[u8]) -> LineOverview
-    ensures { λ r. ⌜ r ≡ lineOverview (seenOf (now (table .entry))) ⌝ }
+pub extern "C" fn nx584_view(table: &[u8]) -> COverview
+    ensures { λ r. ⌜ r ≡ cOverview (seenOf (now (table .entry))) ⌝ }
 {
     let seen = overview::view(table);
     let groups = seen.groups;
     let site = seen.site;
-    LineOverview {
+    COverview {
         number: seen.number,
-        groups: line_groups(groups),
-        site: line_group(site),
+        groups: c_groups(groups),
+        site: c_group(site),
     }
 }
 
 // A read, the reply to its verdict, and a good message put into the table.
 #[no_mangle]
-pub extern "C" fn nx584_hear(reader: LineReader, table: &mut [u8], bytes: &[u8]) -> LineHearing
-    ensures { λ r. ⌜ LineHears reader (now (table .entry)) (now (bytes .entry)) r (now (table .exit)) ⌝ }
+pub extern "C" fn nx584_hear(reader: CReader, table: &mut [u8], bytes: &[u8]) -> CHearing
+    ensures { λ r. ⌜ CHears reader (now (table .entry)) (now (bytes .entry)) r (now (table .exit)) ⌝ }
 {
     if table.len() != table::TABLE_BYTES {
         return with_reply(refused(reader, 11), 0);

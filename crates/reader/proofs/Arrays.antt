@@ -16,7 +16,7 @@ use Rattle.standard.specs.Judge.{Handed}
 use Rattle.reader.specs.declared.Mode.{Mode}
 use Rattle.reader.specs.declared.Reader.{Reader}
 use Rattle.reader.specs.Step.{State, soundWith, stepOf}
-use Rattle.reader.specs.Read.{Read, scanOf, stateOf, soundReader, freshReader, readerAfter, Answer, notSound, readFrom, readOf}
+use Rattle.reader.specs.Read.{Read, scanOf, stateOf, soundReader, freshReader, readerAfter, Given, notSound, readFrom, readOf}
 use Rattle.reader.proofs.Soundness.{Fits, reader-fits, fits-sound, sound-held}
 use Rattle.reader.proofs.Judging.{isOpen}
 use Rattle.reader.proofs.Kept.{Quiet, keeps-step, keeps-scan}
@@ -125,7 +125,7 @@ read-none r w h =
 -- ---- `read` is `step` repeated up to the first verdict
 
 -- an answer with a verdict, or the answer after it with one byte more
-abbrev pub thenRead : List Handed → Answer → Answer → Answer
+abbrev pub thenRead : List Handed → Given → Given → Given
 thenRead [] first later = record { reader = later .reader; used = suc (later .used); said = later .said }
 thenRead (h ∷ hs) first later = first
 
@@ -134,7 +134,7 @@ abbrev Repeated : Reader → ℕ → List ℕ → Type 0
 Repeated r b bs = readOf r (b ∷ bs) ≡ thenRead (readOf r (b ∷ []) .said) (readOf r (b ∷ [])) (readOf (readOf r (b ∷ []) .reader) bs)
 
 -- an answer of which the array is given
-answerWith : Read → List ℕ → Answer
+answerWith : Read → List ℕ → Given
 answerWith read bytes = record {
   reader = record { mode = read .next .mode; held = length (read .next .held); bytes = bytes };
   used = read .used;

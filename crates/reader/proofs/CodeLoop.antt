@@ -29,7 +29,7 @@ use Rattle.reader.specs.declared.Outcome.the-variants.{Nothing, Number, 
 use Rattle.reader.specs.declared.Decision.{Decision}
 use Rattle.reader.specs.declared.Reader.{Reader}
 use Rattle.reader.specs.Step.{Step, beyondLength, goes, stepOf}
-use Rattle.reader.specs.Read.{readOn, scanOf, stateOf, soundReader, Answer, notSound, readFrom, readOf, Reads}
+use Rattle.reader.specs.Read.{readOn, scanOf, stateOf, soundReader, Given, notSound, readFrom, readOf, Reads}
 use Rattle.reader.specs.Decide.{stepIn, judgedOf, keptBy, heldBy, saidBy, Bound, Done, Complete, skippedIn, allStand, Summed, Entire, EntireAt}
 use Rattle.reader.proofs.Soundness.{Few, reader-fits, sound-held}
 use Rattle.reader.proofs.Frames.{length-snoc, by-test, whole-front}
@@ -168,7 +168,7 @@ module _ {r : Reader} {bs : List ℕ} {i : ℕ} {now : Reader} {d : Decision} (t
   whole-after = rw one-byte at (whole-read now (b ∷ []) (t .size))
 
   -- the byte, and the read of those after it where it said nothing
-  abbrev both : Answer
+  abbrev both : Given
   both = thenRead said (record { reader = readerBy d now; used = 1; said = said }) (readOf (readerBy d now) (drop (i + 1) bs))
 
   with-byte : readOf r bs ≡ record { reader = both .reader; used = i + both .used; said = both .said }
@@ -188,7 +188,7 @@ module _ {r : Reader} {bs : List ℕ} {i : ℕ} {now : Reader} {d : Decision} (t
 
 -- ---- what `read` promises, at each of its ways out
 
-reads : (r : Reader) (bs : List ℕ) (a : Answer) (said : Said) → readOf r bs ≡ a → verdictsIn said ≡ map verdictFor (a .said) → Reads r bs (a .reader) (a .used) said
+reads : (r : Reader) (bs : List ℕ) (a : Given) (said : Said) → readOf r bs ≡ a → verdictsIn said ≡ map verdictFor (a .said) → Reads r bs (a .reader) (a .used) said
 reads r bs a said e v =
     let next : a .reader ≡ readOf r bs .reader = ap (λ x. x .reader) (sym e) in
     let verdict : verdictsIn said ≡ map verdictFor (readOf r bs .said) = v ∙ ap (λ x. map verdictFor (x .said)) (sym e) in

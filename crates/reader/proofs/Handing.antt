@@ -10,7 +10,7 @@ use Rattle.standard.specs.declared.Said.the-variants.{Silent, Gave}
 use Rattle.standard.specs.Words.{laid}
 use Rattle.standard.specs.Judge.{Handed, verdictFor, verdictsIn, handedIn}
 use Rattle.reader.specs.declared.Reader.{Reader}
-use Rattle.reader.specs.Read.{Answer, scanOf, stateOf, soundReader, readOf}
+use Rattle.reader.specs.Read.{Given, scanOf, stateOf, soundReader, readOf}
 use Rattle.reader.proofs.Kept.{Hands, keeps-scan}
 use Rattle.reader.proofs.Arrays.{laid-front, read-sound, read-unsound}
 
@@ -26,7 +26,7 @@ hands-in (Gave v) (h ∷ []) bytes kept k e =
 hands-in (Gave v) (h ∷ g ∷ hs) bytes kept k e = absurd k
 
 -- some bytes are laid over the array, in which the message stands
-record Laid (r : Reader) (a : Answer) : Type 0 where
+record Laid (r : Reader) (a : Given) : Type 0 where
   kept : List ℕ
   hands : Hands (a .said) kept
   bytes : a .reader .bytes ≡ laid (r .bytes) 0 kept

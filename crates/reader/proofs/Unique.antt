@@ -8,7 +8,7 @@ use Rattle.standard.proofs.Stream.{verdicts-same}
 use Rattle.reader.specs.declared.Reader.{Reader}
 use Rattle.reader.specs.declared.Stepped.{Stepped}
 use Rattle.reader.specs.declared.Reading.{Reading}
-use Rattle.reader.specs.Read.{Answer, readOf, Gives, Reads, Steps}
+use Rattle.reader.specs.Read.{Given, readOf, Gives, Reads, Steps}
 use Rattle.reader.proofs.Handing.{saidFor, one-verdict, handed-from-verdict}
 
 -- ---- not two
@@ -17,7 +17,7 @@ record Same (r₁ r₂ : Reader) (s₁ s₂ : Said) : Type 0 where
   reader : r₁ ≡ r₂
   said : s₁ ≡ s₂
 
-gives-one : (a : Answer) (r₁ r₂ : Reader) (s₁ s₂ : Said) → Gives r₁ s₁ a → Gives r₂ s₂ a → Same r₁ r₂ s₁ s₂
+gives-one : (a : Given) (r₁ r₂ : Reader) (s₁ s₂ : Said) → Gives r₁ s₁ a → Gives r₂ s₂ a → Same r₁ r₂ s₁ s₂
 gives-one a r₁ r₂ s₁ s₂ p q = record { reader = p .next ∙ sym (q .next); said = verdicts-same s₁ s₂ (p .verdict ∙ sym (q .verdict)) }
 
 abbrev stepped : Reader → Said → Stepped

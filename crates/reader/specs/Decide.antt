@@ -84,8 +84,8 @@ abbrev pub Always : Decision → (List ℕ → Step) → Type 0
 Always d step = (held : List ℕ) → Done d held (step held)
 
 -- for n bytes held
-abbrev pub Counted : ℕ → Decision → (List ℕ → Step) → Type 0
-Counted n d step = (held : List ℕ) → length held ≡ n → Done d held (step held)
+abbrev pub ForHeld : ℕ → Decision → (List ℕ → Step) → Type 0
+ForHeld n d step = (held : List ℕ) → length held ≡ n → Done d held (step held)
 
 -- for n bytes held of which this is the first, if there is one
 abbrev pub Decides : ℕ → ℕ → Decision → (List ℕ → Step) → Type 0

@@ -47,26 +47,26 @@ freshReader f = record { mode = Skipping f; held = 0; bytes = replicate 21 0 }
 abbrev pub readerAfter : Reader → State → List ℕ → Reader
 readerAfter r next kept = record { mode = next .mode; held = length (next .held); bytes = laid (r .bytes) 0 kept }
 
-pub record Answer : Type 0 where
+pub record Given : Type 0 where
   pub reader : Reader
   pub used : ℕ
   pub said : List Handed
 
 -- "Reading with an unsound state gives 12, uses no byte and hands the state back"
-abbrev pub notSound : Reader → Answer
+abbrev pub notSound : Reader → Given
 notSound r = record { reader = r; used = 0; said = handing 12 [] ∷ [] }
 
-abbrev pub readFrom : Reader → Read → Answer
+abbrev pub readFrom : Reader → Read → Given
 readFrom r read = record { reader = readerAfter r (read .next) (read .kept); used = read .used; said = read .said }
 
 -- THE ANSWER of a read, from any reader
-unfoldable pub readOf : Reader → List ℕ → Answer
+unfoldable pub readOf : Reader → List ℕ → Given
 readOf r bs = cond (soundReader r) (readFrom r (scanOf (stateOf r) bs)) (notSound r)
 
 -- ---- what is promised
 
 -- that an answer's reader and verdict are those of `a`: the verdict's numbers, and its message in the reader's array
-pub record Gives (reader : Reader) (said : Said) (a : Answer) : Type 0 where
+pub record Gives (reader : Reader) (said : Said) (a : Given) : Type 0 where
   pub next : reader ≡ a .reader
   pub verdict : verdictsIn said ≡ map verdictFor (a .said)
   pub handed : handedIn said (reader .bytes) ≡ a .said

@@ -15,7 +15,7 @@ ghost use Rattle.reader.specs.Step.{beyondLength, pendingOk, soundWith, 
 ghost use Rattle.reader.specs.Read.{soundReader, freshReader, Reads, Steps};
 ghost use Rattle.standard.specs.Sums.{sumsOf};
 ghost use lib.Seq.{sets};
-ghost use Rattle.reader.specs.Decide.{stepIn, opensIn, tells, judgedOf, skippedIn, stands, Always, Counted, Decides, Judges, Complete, Digits, Passed, Plainly, Summed, IfAny, Entire, EntireAt};
+ghost use Rattle.reader.specs.Decide.{stepIn, opensIn, tells, judgedOf, skippedIn, stands, Always, ForHeld, Decides, Judges, Complete, Digits, Passed, Plainly, Summed, IfAny, Entire, EntireAt};
 
 mod digits;
 
@@ -113,7 +113,7 @@ fn length_ok(n: u8) -> bool
 
 // Nothing of the frame is recovered.
 fn goes(mode: Mode, held: usize) -> Decision
-    ensures { λ r. ⌜ Counted held r (goes mode) ⌝ }
+    ensures { λ r. ⌜ ForHeld held r (goes mode) ⌝ }
 {
     Decision {
         mode,
@@ -128,7 +128,7 @@ fn goes(mode: Mode, held: usize) -> Decision
 // A recovered byte is held.
 fn holds(framing: Framing, held: usize, byte: u8) -> Decision
     requires { ⌜ held ≤ longest + 3 ⌝ }
-    ensures { λ r. ⌜ Counted held r (λ bytes. goes (Open framing) (bytes ++ (byte ∷ []))) ⌝ }
+    ensures { λ r. ⌜ ForHeld held r (λ bytes. goes (Open framing) (bytes ++ (byte ∷ []))) ⌝ }
 {
     Decision {
         mode: Mode::Open(framing),
@@ -233,7 +233,7 @@ fn takes(framing: Framing, held: usize, first: u8, x: u8) -> Decision
 
 // "After a verdict everything up to the next start is skipped."
 fn skipping(framing: Framing, held: usize, b: u8) -> Decision
-    ensures { λ r. ⌜ Counted held r (stepIn (Skipping framing) b) ⌝ }
+    ensures { λ r. ⌜ ForHeld held r (stepIn (Skipping framing) b) ⌝ }
 {
     if b == start_of(framing) {
         starts(framing)

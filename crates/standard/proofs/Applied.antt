@@ -12,7 +12,7 @@ use lib.Seq.{getD-take, getD-drop}
 use borrow.Author.Tests.{eq-eqb, ne-eqb, eqb-true, eqb-false}
 use Rattle.standard.specs.Words.{byte, bit, upTo, firstOf}
 use Rattle.standard.specs.Messages.{numberOf, messageTests, checkOf}
-use Rattle.standard.specs.Table.{tableBytes, zoneAt, partitionAt, systemAt, zoneMark, zoneShort}
+use Rattle.standard.specs.Table.{tableBytes, zonePlace, partitionPlace, systemPlace, zoneMark, zoneShort}
 use Rattle.standard.specs.Table.{shortFrom, fourBits, zoneWrites, shortWrites, partitionWrites, partitionShort, systemWrites, writesOf}
 use Rattle.standard.specs.Table.{Write, doneAll, applyRefusal, appliedTo, Applied}
 use Rattle.standard.specs.Questions.{tableRefusal}
@@ -155,33 +155,33 @@ module _ (t m : List ℕ) where
   -- "04h stores its bytes 3-8, sets mark bits 0 and 1, and sets the short flags", for a zone that is a byte
   pub zone-mark : Taken 0x04 t m → byte 2 m < 256 → zoneMark (appliedTo t m) (byte 2 m) ≡ bitOr (zoneMark t (byte 2 m)) 3
   unfolding writesOf
-  zone-mark k h = left (zoneAt (byte 2 m)) k (omega arith) ∙ record-mark (zoneAt (byte 2 m)) 3 (zoneRun m) (zoneMark t (byte 2 m))
+  zone-mark k h = left (zonePlace (byte 2 m)) k (omega arith) ∙ record-mark (zonePlace (byte 2 m)) 3 (zoneRun m) (zoneMark t (byte 2 m))
 
   -- its other seven bytes
   pub zone-run : (j : ℕ) → Taken 0x04 t m → byte 2 m < 256 → j < 7
-      → getD (appliedTo t m) (zoneAt (byte 2 m) + 1 + j) 0 ≡ getD (zoneRun m) j 0
+      → getD (appliedTo t m) (zonePlace (byte 2 m) + 1 + j) 0 ≡ getD (zoneRun m) j 0
   unfolding writesOf
   zone-run j k h l =
-      left (zoneAt (byte 2 m) + 1 + j) k (omega arith)
-      ∙ record-byte (zoneAt (byte 2 m)) 3 (zoneRun m) j (getD t (zoneAt (byte 2 m) + 1 + j) 0) l
+      left (zonePlace (byte 2 m) + 1 + j) k (omega arith)
+      ∙ record-byte (zonePlace (byte 2 m)) 3 (zoneRun m) j (getD t (zonePlace (byte 2 m) + 1 + j) 0) l
 
   -- "faulted from condition 1 bit 0; bypass from bit 3 or 4; .."
   pub zone-short : Taken 0x04 t m → byte 2 m < 256 → zoneShort (appliedTo t m) (byte 2 m) ≡ shortFrom (byte 7 m) (byte 8 m)
   zone-short k h = ap (λ i. getD (appliedTo t m) i 0) (omega arith) ∙ zone-run 6 k h (omega arith)
 
   -- "all other records" stay
-  pub zone-keeps : (i : ℕ) → numberOf (byte 1 m) ≡ 0x04 → ((k : ℕ) → k < 8 → i ≡ zoneAt (byte 2 m) + k → ⊥)
+  pub zone-keeps : (i : ℕ) → numberOf (byte 1 m) ≡ 0x04 → ((k : ℕ) → k < 8 → i ≡ zonePlace (byte 2 m) + k → ⊥)
       → getD (appliedTo t m) i 0 ≡ getD t i 0
   unfolding writesOf
-  zone-keeps i e h = stays i e (record-elsewhere (zoneAt (byte 2 m)) 3 (zoneRun m) i (λ k l. h k (omega arith)))
+  zone-keeps i e h = stays i e (record-elsewhere (zonePlace (byte 2 m)) 3 (zoneRun m) i (λ k l. h k (omega arith)))
 
   -- "05h sets short flags .. and mark bit 0 of its 16 zones, nothing else of them"
   pub zones-mark : (j : ℕ) → Taken 0x05 t m → j < 16 → zoneMark (appliedTo t m) (byte 2 m + j) ≡ bitOr (zoneMark t (byte 2 m + j)) 1
   unfolding writesOf
   zones-mark j k l =
       let h = passed-offset m (passed m (k .good)) (k .number) in
-      left (zoneAt (byte 2 m + j)) k (omega arith)
-      ∙ heard-mark (λ i. zoneAt (byte 2 m + i)) 7 (λ i. fourBits i (byte (3 + i / 2) m)) (λ a b e. omega arith) (λ a b e. omega arith)
+      left (zonePlace (byte 2 m + j)) k (omega arith)
+      ∙ heard-mark (λ i. zonePlace (byte 2 m + i)) 7 (λ i. fourBits i (byte (3 + i / 2) m)) (λ a b e. omega arith) (λ a b e. omega arith)
       16 j (zoneMark t (byte 2 m + j)) l
 
   -- the short flags, four bits each
@@ -189,109 +189,109 @@ module _ (t m : List ℕ) where
   unfolding writesOf
   zones-short j k l =
       let h = passed-offset m (passed m (k .good)) (k .number) in
-      left (zoneAt (byte 2 m + j) + 7) k (omega arith)
-      ∙ heard-short (λ i. zoneAt (byte 2 m + i)) 7 (λ i. fourBits i (byte (3 + i / 2) m)) (λ a b e. omega arith) (λ a b e. omega arith)
+      left (zonePlace (byte 2 m + j) + 7) k (omega arith)
+      ∙ heard-short (λ i. zonePlace (byte 2 m + i)) 7 (λ i. fourBits i (byte (3 + i / 2) m)) (λ a b e. omega arith) (λ a b e. omega arith)
       16 j (zoneShort t (byte 2 m + j)) l
 
   -- every other place stays
   pub zones-keep : (i : ℕ) → numberOf (byte 1 m) ≡ 0x05
-      → ((j : ℕ) → j < 16 → (i ≡ zoneAt (byte 2 m + j) → ⊥) × (i ≡ zoneAt (byte 2 m + j) + 7 → ⊥))
+      → ((j : ℕ) → j < 16 → (i ≡ zonePlace (byte 2 m + j) → ⊥) × (i ≡ zonePlace (byte 2 m + j) + 7 → ⊥))
       → getD (appliedTo t m) i 0 ≡ getD t i 0
   unfolding writesOf
   zones-keep i e h = stays i e (every-turn (Elsewhere i) (shortWrites m) 16 (λ j l. let p = h j l in (p .0, (p .1, tt))))
 
   -- so the mask, type and condition bytes of every zone stay
   pub zones-keep-conditions : (zone k : ℕ) → numberOf (byte 1 m) ≡ 0x05 → 1 ≤ k → k ≤ 6
-      → getD (appliedTo t m) (zoneAt zone + k) 0 ≡ getD t (zoneAt zone + k) 0
-  zones-keep-conditions zone k e lo hi = zones-keep (zoneAt zone + k) e (λ j l. ((λ p. omega arith), (λ p. omega arith)))
+      → getD (appliedTo t m) (zonePlace zone + k) 0 ≡ getD t (zonePlace zone + k) 0
+  zones-keep-conditions zone k e lo hi = zones-keep (zonePlace zone + k) e (λ j l. ((λ p. omega arith), (λ p. omega arith)))
 
   -- "06h stores and sets mark bit 1; the short byte stays"
-  pub partition-mark : Taken 0x06 t m → getD (appliedTo t m) (partitionAt (byte 2 m)) 0 ≡ bitOr (getD t (partitionAt (byte 2 m)) 0) 2
+  pub partition-mark : Taken 0x06 t m → getD (appliedTo t m) (partitionPlace (byte 2 m)) 0 ≡ bitOr (getD t (partitionPlace (byte 2 m)) 0) 2
   unfolding writesOf
   partition-mark k =
       let h = passed-partition m (passed m (k .good)) (k .number) in
-      left (partitionAt (byte 2 m)) k (omega arith)
-      ∙ record-mark (partitionAt (byte 2 m)) 2 (take 7 (drop 2 m)) (getD t (partitionAt (byte 2 m)) 0)
+      left (partitionPlace (byte 2 m)) k (omega arith)
+      ∙ record-mark (partitionPlace (byte 2 m)) 2 (take 7 (drop 2 m)) (getD t (partitionPlace (byte 2 m)) 0)
 
   -- its seven bytes
-  pub partition-run : (j : ℕ) → Taken 0x06 t m → j < 7 → getD (appliedTo t m) (partitionAt (byte 2 m) + 1 + j) 0 ≡ byte (3 + j) m
+  pub partition-run : (j : ℕ) → Taken 0x06 t m → j < 7 → getD (appliedTo t m) (partitionPlace (byte 2 m) + 1 + j) 0 ≡ byte (3 + j) m
   unfolding writesOf
   partition-run j k l =
       let h = passed-partition m (passed m (k .good)) (k .number) in
       let n = passed-number m 0x06 (passed m (k .good)) (k .number) in
-      left (partitionAt (byte 2 m) + 1 + j) k (omega arith)
-      ∙ record-byte (partitionAt (byte 2 m)) 2 (take 7 (drop 2 m)) j (getD t (partitionAt (byte 2 m) + 1 + j) 0)
+      left (partitionPlace (byte 2 m) + 1 + j) k (omega arith)
+      ∙ record-byte (partitionPlace (byte 2 m)) 2 (take 7 (drop 2 m)) j (getD t (partitionPlace (byte 2 m) + 1 + j) 0)
       (simp (length-take, length-drop) (omega arith))
       ∙ getD-take 7 (drop 2 m) j 0 l
       ∙ getD-drop 2 m j 0
       ∙ ap (λ i. getD m i 0) (omega arith)
 
   -- every other place stays
-  pub partition-keeps : (i : ℕ) → numberOf (byte 1 m) ≡ 0x06 → ((k : ℕ) → k < 8 → i ≡ partitionAt (byte 2 m) + k → ⊥)
+  pub partition-keeps : (i : ℕ) → numberOf (byte 1 m) ≡ 0x06 → ((k : ℕ) → k < 8 → i ≡ partitionPlace (byte 2 m) + k → ⊥)
       → getD (appliedTo t m) i 0 ≡ getD t i 0
   unfolding writesOf
   partition-keeps i e h =
-      stays i e (record-elsewhere (partitionAt (byte 2 m)) 2 (take 7 (drop 2 m)) i (λ k l. h k (omega (arith, simp length-take at l))))
+      stays i e (record-elsewhere (partitionPlace (byte 2 m)) 2 (take 7 (drop 2 m)) i (λ k l. h k (omega (arith, simp length-take at l))))
 
   -- so every short byte
   pub partition-keeps-short : (partition : ℕ) → numberOf (byte 1 m) ≡ 0x06
-      → getD (appliedTo t m) (partitionAt partition + 8) 0 ≡ getD t (partitionAt partition + 8) 0
-  partition-keeps-short partition e = partition-keeps (partitionAt partition + 8) e (λ k l p. omega arith)
+      → getD (appliedTo t m) (partitionPlace partition + 8) 0 ≡ getD t (partitionPlace partition + 8) 0
+  partition-keeps-short partition e = partition-keeps (partitionPlace partition + 8) e (λ k l p. omega arith)
 
   -- "07h sets all eight short bytes and mark bit 0 of each"
-  pub partitions-mark : (p : ℕ) → Taken 0x07 t m → p < 8 → getD (appliedTo t m) (partitionAt p) 0 ≡ bitOr (getD t (partitionAt p) 0) 1
+  pub partitions-mark : (p : ℕ) → Taken 0x07 t m → p < 8 → getD (appliedTo t m) (partitionPlace p) 0 ≡ bitOr (getD t (partitionPlace p) 0) 1
   unfolding writesOf
   partitions-mark p k l =
-      left (partitionAt p) k (omega arith)
-      ∙ heard-mark partitionAt 8 (λ q. byte (2 + q) m) (λ i j e. omega arith) (λ i j e. omega arith) 8 p (getD t (partitionAt p) 0) l
+      left (partitionPlace p) k (omega arith)
+      ∙ heard-mark partitionPlace 8 (λ q. byte (2 + q) m) (λ i j e. omega arith) (λ i j e. omega arith) 8 p (getD t (partitionPlace p) 0) l
 
   -- the short bytes
-  pub partitions-short : (p : ℕ) → Taken 0x07 t m → p < 8 → getD (appliedTo t m) (partitionAt p + 8) 0 ≡ byte (2 + p) m
+  pub partitions-short : (p : ℕ) → Taken 0x07 t m → p < 8 → getD (appliedTo t m) (partitionPlace p + 8) 0 ≡ byte (2 + p) m
   unfolding writesOf
   partitions-short p k l =
-      left (partitionAt p + 8) k (omega arith)
-      ∙ heard-short partitionAt 8 (λ q. byte (2 + q) m) (λ i j e. omega arith) (λ i j e. omega arith) 8 p (getD t (partitionAt p + 8) 0) l
+      left (partitionPlace p + 8) k (omega arith)
+      ∙ heard-short partitionPlace 8 (λ q. byte (2 + q) m) (λ i j e. omega arith) (λ i j e. omega arith) 8 p (getD t (partitionPlace p + 8) 0) l
 
   -- every other place stays
   pub partitions-keep : (i : ℕ) → numberOf (byte 1 m) ≡ 0x07
-      → ((p : ℕ) → p < 8 → (i ≡ partitionAt p → ⊥) × (i ≡ partitionAt p + 8 → ⊥)) → getD (appliedTo t m) i 0 ≡ getD t i 0
+      → ((p : ℕ) → p < 8 → (i ≡ partitionPlace p → ⊥) × (i ≡ partitionPlace p + 8 → ⊥)) → getD (appliedTo t m) i 0 ≡ getD t i 0
   unfolding writesOf
   partitions-keep i e h = stays i e (every-turn (Elsewhere i) (partitionShort m) 8 (λ j l. let p = h j l in (p .0, (p .1, tt))))
 
   -- "08h stores and sets its mark to 1"
-  pub system-mark : Taken 0x08 t m → getD (appliedTo t m) systemAt 0 ≡ 1
+  pub system-mark : Taken 0x08 t m → getD (appliedTo t m) systemPlace 0 ≡ 1
   unfolding writesOf
-  system-mark k = left systemAt k (omega arith) ∙ leftAt-run systemAt 0 (1 ∷ take 11 (drop 1 m)) (getD t systemAt 0) (omega arith)
+  system-mark k = left systemPlace k (omega arith) ∙ leftAt-run systemPlace 0 (1 ∷ take 11 (drop 1 m)) (getD t systemPlace 0) (omega arith)
 
   -- its eleven bytes
-  pub system-run : (j : ℕ) → Taken 0x08 t m → j < 11 → getD (appliedTo t m) (systemAt + suc j) 0 ≡ byte (2 + j) m
+  pub system-run : (j : ℕ) → Taken 0x08 t m → j < 11 → getD (appliedTo t m) (systemPlace + suc j) 0 ≡ byte (2 + j) m
   unfolding writesOf
   system-run j k l =
       let n = passed-number m 0x08 (passed m (k .good)) (k .number) in
-      left (systemAt + suc j) k (omega arith)
-      ∙ leftAt-run systemAt (suc j) (1 ∷ take 11 (drop 1 m)) (getD t (systemAt + suc j) 0) (simp (length-take, length-drop) (omega arith))
+      left (systemPlace + suc j) k (omega arith)
+      ∙ leftAt-run systemPlace (suc j) (1 ∷ take 11 (drop 1 m)) (getD t (systemPlace + suc j) 0) (simp (length-take, length-drop) (omega arith))
       ∙ getD-take 11 (drop 1 m) j 0 l
       ∙ getD-drop 1 m j 0
       ∙ ap (λ i. getD m i 0) (omega arith)
 
   -- every place before it stays
-  pub system-keeps : (i : ℕ) → numberOf (byte 1 m) ≡ 0x08 → i < systemAt → getD (appliedTo t m) i 0 ≡ getD t i 0
+  pub system-keeps : (i : ℕ) → numberOf (byte 1 m) ≡ 0x08 → i < systemPlace → getD (appliedTo t m) i 0 ≡ getD t i 0
   unfolding writesOf
-  system-keeps i e h = stays i e (every-run (Elsewhere i) systemAt (1 ∷ take 11 (drop 1 m)) (λ k l p. omega arith))
+  system-keeps i e h = stays i e (every-run (Elsewhere i) systemPlace (1 ∷ take 11 (drop 1 m)) (λ k l p. omega arith))
 
 -- ---- marks are never cleared
 
 -- a place that no message stores to
 pub record Unstored (i : ℕ) : Type 0 where
-  pub zones : (zone k : ℕ) → zone < 256 → k < 7 → i ≡ zoneAt zone + 1 + k → ⊥
-  pub partitions : (partition k : ℕ) → k < 8 → i ≡ partitionAt partition + 1 + k → ⊥
-  pub system : i < systemAt
+  pub zones : (zone k : ℕ) → zone < 256 → k < 7 → i ≡ zonePlace zone + 1 + k → ⊥
+  pub partitions : (partition k : ℕ) → k < 8 → i ≡ partitionPlace partition + 1 + k → ⊥
+  pub system : i < systemPlace
 
 -- it is a zone's mark, or a partition's
-pub zone-unstored : (zone : ℕ) → zone < 256 → Unstored (zoneAt zone)
+pub zone-unstored : (zone : ℕ) → zone < 256 → Unstored (zonePlace zone)
 zone-unstored zone h = record { zones = λ z k l r e. omega arith; partitions = λ p k r e. omega arith; system = omega arith }
 
-pub partition-unstored : (partition : ℕ) → partition < 8 → Unstored (partitionAt partition)
+pub partition-unstored : (partition : ℕ) → partition < 8 → Unstored (partitionPlace partition)
 partition-unstored partition h = record { zones = λ z k l r e. omega arith; partitions = λ p k r e. omega arith; system = omega arith }
 
 -- so no message stores there
@@ -299,18 +299,18 @@ not-stored : (i : ℕ) (m : List ℕ) (n : ℕ) → Unstored i → byte 2 m < 25
     → Every (NotStored i) (writesOf n m)
 not-stored i m n u h o =
     writes-are (Every (NotStored i)) n m
-    (λ e. (tt, every-run (NotStored i) (zoneAt (byte 2 m) + 1) (zoneRun m) (λ k l. u .zones (byte 2 m) k h l)))
+    (λ e. (tt, every-run (NotStored i) (zonePlace (byte 2 m) + 1) (zoneRun m) (λ k l. u .zones (byte 2 m) k h l)))
     (λ e.
     let f = o e in
     every-turn (NotStored i) (shortWrites m) 16
     (λ j l. (tt, ((λ p. u .zones (byte 2 m + j) 6 (omega arith) (omega arith) (omega arith)), tt))))
     (λ e. (
       tt,
-      every-run (NotStored i) (partitionAt (byte 2 m) + 1) (take 7 (drop 2 m))
+      every-run (NotStored i) (partitionPlace (byte 2 m) + 1) (take 7 (drop 2 m))
           (λ k l. u .partitions (byte 2 m) k (omega (arith, simp length-take at l))),
     ))
     (λ e. every-turn (NotStored i) (partitionShort m) 8 (λ p l. (tt, ((λ q. u .partitions p 7 (omega arith) (omega arith)), tt))))
-    (λ e. every-run (NotStored i) systemAt (1 ∷ take 11 (drop 1 m)) (λ k l p. let s = u .system in omega arith))
+    (λ e. every-run (NotStored i) systemPlace (1 ∷ take 11 (drop 1 m)) (λ k l p. let s = u .system in omega arith))
     tt
 
 -- a bit that is set in such a mark is never cleared, by any message whose byte 2 is a byte

@@ -6,7 +6,7 @@ use lib.Dec.{eqb, leb}
 use lib.ListN.{length}
 use Rattle.standard.specs.Words.{byte, bit, firstOf}
 
--- "Read and written: 1 to 18"
+-- "Read and written: 1 to 18"; the longest of the 41 messages has its own name, since a longer one can be read that none of them is
 abbrev pub longest : ℕ
 longest = 18
 
@@ -62,6 +62,10 @@ known =
 abbrev pub lengthIn : List (ℕ × ℕ) → ℕ → ℕ
 lengthIn [] n = 0
 lengthIn (row ∷ rows) n = cond (eqb n (row .0)) (row .1) (lengthIn rows n)
+
+-- the longest of the 41 messages
+abbrev pub longestKnown : ℕ
+longestKnown = 18
 
 -- "Bits 0-5 number, bit 6 reserved, bit 7 acknowledge wanted"
 abbrev pub numberOf : ℕ → ℕ

@@ -3,8 +3,7 @@ use Prim.Native.Nat.{ℕ, zero, suc, _+_, _-_, _*_, min}
 use mathlib.Core.Bool.{false, cond}
 use mathlib.Core.Option.{Option, none, some}
 use mathlib.Core.List.{List, map}
-use lib.Dec.{eqb}
-use lib.ListN.{length, replicate}
+use lib.ListN.{replicate}
 use lib.Ieee.{Float, binary64, round}
 use Rattle.standard.specs.declared.Share.{Share}
 use Rattle.standard.specs.declared.Share.the-variants.{NotHeard}
@@ -12,7 +11,7 @@ use Rattle.standard.specs.declared.Share.the-variants.{Share as IsShare}
 use Rattle.standard.specs.declared.Group.{Group}
 use Rattle.standard.specs.declared.Overview.{Overview}
 use Rattle.standard.specs.Words.{upTo, total}
-use Rattle.standard.specs.Table.{tableBytes, heardZone, shortFaulted}
+use Rattle.standard.specs.Table.{isTable, heardZone, shortFaulted}
 
 -- zone z of the paper is number z - 1 on the line; 1 where it is heard, and where it is faulted among the heard
 abbrev pub heardOne : List ℕ → ℕ → ℕ
@@ -72,7 +71,7 @@ allSeen t = record {
 
 -- "One call gives all sixteen groups and the site, or refuses with 11"
 unfoldable pub seenOf : List ℕ → Seen
-seenOf t = cond (eqb (length t) tableBytes) (allSeen t) nothingSeen
+seenOf t = cond (isTable t) (allSeen t) nothingSeen
 
 -- the paper's values of an answer
 abbrev pub groupValues : Group → Counted

@@ -16,14 +16,21 @@ use Rattle.standard.specs.Judge.{Handed}
 abbrev pub tableBytes : ℕ
 tableBytes = 2132
 
-abbrev pub zoneAt : ℕ → ℕ
-zoneAt zone = 8 * zone
+abbrev pub zonePlace : ℕ → ℕ
+zonePlace zone = 8 * zone
 
-abbrev pub partitionAt : ℕ → ℕ
-partitionAt partition = 2048 + 9 * partition
+abbrev pub partitionPlace : ℕ → ℕ
+partitionPlace partition = 2048 + 9 * partition
 
-abbrev pub systemAt : ℕ
-systemAt = 2120
+abbrev pub systemPlace : ℕ
+systemPlace = 2120
+
+-- the table's length, for 11: "table buffer is not 2,132 bytes"
+abbrev pub isTable : List ℕ → Bool
+isTable t = eqb (length t) tableBytes
+
+abbrev pub tableTest : List ℕ → Bool × ℕ
+tableTest t = (not (isTable t), 11)
 
 -- "All zero is fresh"
 unfoldable pub fresh : List ℕ
@@ -31,10 +38,10 @@ fresh = replicate tableBytes 0
 
 -- "Zone: mark, partition mask, type flags 1-3, condition flags 1-2, short flags"
 abbrev pub zoneMark : List ℕ → ℕ → ℕ
-zoneMark t zone = getD t (zoneAt zone) 0
+zoneMark t zone = getD t (zonePlace zone) 0
 
 abbrev pub zoneShort : List ℕ → ℕ → ℕ
-zoneShort t zone = getD t (zoneAt zone + 7) 0
+zoneShort t zone = getD t (zonePlace zone + 7) 0
 
 -- "A zone is heard when mark bit 0 is set": 1, or 0
 abbrev pub heardZone : List ℕ → ℕ → ℕ
@@ -67,8 +74,8 @@ shortFrom c1 c2 =
 -- "04h stores its bytes 3-8, sets mark bits 0 and 1, and sets the short flags"
 abbrev pub zoneWrites : List ℕ → List Write
 zoneWrites m =
-    marks (zoneAt (byte 2 m)) 3
-    ∷ storesFrom (zoneAt (byte 2 m) + 1)
+    marks (zonePlace (byte 2 m)) 3
+    ∷ storesFrom (zonePlace (byte 2 m) + 1)
     (byte 3 m ∷ byte 4 m ∷ byte 5 m ∷ byte 6 m ∷ byte 7 m ∷ byte 8 m ∷ shortFrom (byte 7 m) (byte 8 m) ∷ [])
 
 -- four bits of 05h: of its 16 zones, an even one has the low half of its byte
@@ -78,19 +85,19 @@ fourBits j b = cond (eqb (j % 2) 0) (b % 16) (b / 16)
 -- "05h sets short flags (bits 4-7 clear) and mark bit 0 of its 16 zones, nothing else of them"
 abbrev pub shortWrites : List ℕ → ℕ → List Write
 shortWrites m j =
-    marks (zoneAt (byte 2 m + j)) 1 ∷ stores (zoneAt (byte 2 m + j) + 7) (fourBits j (byte (3 + j / 2) m)) ∷ []
+    marks (zonePlace (byte 2 m + j)) 1 ∷ stores (zonePlace (byte 2 m + j) + 7) (fourBits j (byte (3 + j / 2) m)) ∷ []
 
 -- "06h stores and sets mark bit 1; the short byte stays": "the seven bytes of 06h from byte 3"
 abbrev pub partitionWrites : List ℕ → List Write
-partitionWrites m = marks (partitionAt (byte 2 m)) 2 ∷ storesFrom (partitionAt (byte 2 m) + 1) (take 7 (drop 2 m))
+partitionWrites m = marks (partitionPlace (byte 2 m)) 2 ∷ storesFrom (partitionPlace (byte 2 m) + 1) (take 7 (drop 2 m))
 
 -- "07h sets all eight short bytes and mark bit 0 of each"
 abbrev pub partitionShort : List ℕ → ℕ → List Write
-partitionShort m p = marks (partitionAt p) 1 ∷ stores (partitionAt p + 8) (byte (2 + p) m) ∷ []
+partitionShort m p = marks (partitionPlace p) 1 ∷ stores (partitionPlace p + 8) (byte (2 + p) m) ∷ []
 
 -- "08h stores and sets its mark to 1": "System: mark, bytes 2-12 of 08h"
 abbrev pub systemWrites : List ℕ → List Write
-systemWrites m = storesFrom systemAt (1 ∷ take 11 (drop 1 m))
+systemWrites m = storesFrom systemPlace (1 ∷ take 11 (drop 1 m))
 
 -- "all other messages leave the table's bytes alike"
 unfoldable pub writesOf : ℕ → List ℕ → List Write
@@ -111,9 +118,6 @@ unfoldable pub doneAll : List Write → List ℕ → List ℕ
 doneAll [] t = t
 doneAll (w ∷ ws) t = doneAll ws (done w t)
 
--- 11: "table buffer is not 2,132 bytes"
-abbrev pub tableTest : List ℕ → Bool × ℕ
-tableTest t = (not (eqb (length t) tableBytes), 11)
 
 -- "Order of refusal: 11, 4, 6, 7, 8"
 unfoldable pub applyRefusal : List ℕ → List ℕ → ℕ

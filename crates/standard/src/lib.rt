@@ -1,5 +1,16 @@
-// The words of document 01 that code hands about. What they mean stands in specs/, one file for
-// each section of the document, and nothing here computes.
+// The words of document 01 that code hands about, and the few numbers of theirs that more than one
+// crate asks. What they mean stands in specs/, one file for each section of the document.
+ghost use mathlib.Core.Path.{_≡_};
+ghost use Prim.Native.Nat.{_<_};
+ghost use Rattle.standard.specs.Framing.{startOf, twoDigits};
+ghost use Rattle.standard.specs.Framing.{digit as Framing·digit};
+ghost use Rattle.standard.specs.Replies.{replyNumber};
+
+// The longest message that is read: "1 to 18".
+pub const LONGEST: usize = 18;
+
+// The longest of the 41 messages, 03h.
+pub const LONGEST_KNOWN: usize = 18;
 
 // The line's two framings.
 pub enum Framing {
@@ -59,4 +70,40 @@ pub struct Overview {
     pub number: u8,
     pub groups: [Group; 16],
     pub site: Group,
+}
+
+// "Start 7Eh", "Start 0Ah".
+pub fn start_of(framing: Framing) -> u8
+    ensures { λ r. ⌜ r ≡ startOf framing ⌝ }
+{
+    match framing {
+        Framing::Binary => 0x7E,
+        Framing::Ascii => 0x0A,
+    }
+}
+
+// "Every byte as two characters, high digit first, from 0-9 and A-F."
+pub fn two_digits(b: u8) -> [u8; 2]
+    ensures { λ r. ⌜ r ≡ twoDigits b ⌝ }
+{
+    [digit(b / 16), digit(b % 16)]
+}
+
+fn digit(d: u8) -> u8
+    requires { ⌜ d < 16 ⌝ }
+    ensures { λ r. ⌜ r ≡ Framing·digit d ⌝ }
+{
+    if d < 10 { 48 + d } else { 55 + d }
+}
+
+// The number of the message that a reply is; 0: none.
+pub fn reply_number(reply: Reply) -> u8
+    ensures { λ r. ⌜ r ≡ replyNumber reply ⌝ }
+{
+    match reply {
+        Reply::Nothing => 0,
+        Reply::Acknowledge => 0x1D,
+        Reply::NegativeAcknowledge => 0x1E,
+        Reply::Rejected => 0x1F,
+    }
 }

@@ -9,7 +9,7 @@ ghost use lib.Dec.{eqb, leb};
 ghost use lib.ListN.{length, getD, take, drop};
 ghost use lib.Seq.{sets};
 ghost use Rattle.standard.specs.Words.{byte, upTo};
-ghost use Rattle.standard.specs.Table.{tableBytes, zoneAt, partitionAt, fresh, zoneMark, zoneShort, heardZone, shortFrom, fourBits, zoneWrites, shortWrites, partitionWrites, partitionShort, systemWrites, doneAll, Applied};
+ghost use Rattle.standard.specs.Table.{tableBytes, zonePlace, partitionPlace, fresh, zoneMark, zoneShort, heardZone, shortFrom, fourBits, zoneWrites, shortWrites, partitionWrites, partitionShort, systemWrites, doneAll, Applied};
 ghost use Rattle.standard.specs.Questions.{tableRefusal, partitionRefusal, zonePart, partitionPart, systemPart, Answered};
 
 // The answer to a question: 0 and the value, or the refusal's number and 0.
@@ -22,7 +22,7 @@ pub struct Answer {
 pub const TABLE_BYTES: usize = 2132;
 
 // Where the system record begins.
-const SYSTEM_AT: usize = 2120;
+const SYSTEM_PLACE: usize = 2120;
 
 // "All zero is fresh."
 pub fn fresh() -> [u8; TABLE_BYTES]
@@ -32,17 +32,17 @@ pub fn fresh() -> [u8; TABLE_BYTES]
 }
 
 // Where a zone's record begins.
-fn zone_at(zone: usize) -> usize
+fn zone_place(zone: usize) -> usize
     requires { ⌜ zone < 256 ⌝ }
-    ensures { λ r. ⌜ r ≡ zoneAt zone ⌝ }
+    ensures { λ r. ⌜ r ≡ zonePlace zone ⌝ }
 {
     8 * zone
 }
 
 // Where a partition's record begins.
-fn partition_at(partition: usize) -> usize
+fn partition_place(partition: usize) -> usize
     requires { ⌜ partition < 256 ⌝ }
-    ensures { λ r. ⌜ r ≡ partitionAt partition ⌝ }
+    ensures { λ r. ⌜ r ≡ partitionPlace partition ⌝ }
 {
     2048 + 9 * partition
 }
@@ -112,7 +112,7 @@ fn put_zone(table: &mut [u8], message: &[u8])
     requires { ⌜ length (now message) ≡ 8 ⌝ }
     ensures { λ _. ⌜ now (table .exit) ≡ doneAll (zoneWrites (now (message .entry))) (now (table .entry)) ⌝ }
 {
-    let at = zone_at(message[1] as usize);
+    let at = zone_place(message[1] as usize);
     table[at] = table[at] | 3;
     lay(table, at + 1, &message[2..8]);
     table[at + 7] = short_from(message[6], message[7]);
@@ -128,7 +128,7 @@ fn put_zones(table: &mut [u8], message: &[u8])
     let first = message[1] as usize;
     let mut j: usize = 0;
     while j < 16 {
-        let at = zone_at(first + j);
+        let at = zone_place(first + j);
         table[at] = table[at] | 1;
         table[at + 7] = four_bits(j, message[2 + j / 2]);
         j += 1;
@@ -142,7 +142,7 @@ fn put_partition(table: &mut [u8], message: &[u8])
     requires { ⌜ byte 2 (now message) ≤ 7 ⌝ }
     ensures { λ _. ⌜ now (table .exit) ≡ doneAll (partitionWrites (now (message .entry))) (now (table .entry)) ⌝ }
 {
-    let at = partition_at(message[1] as usize);
+    let at = partition_place(message[1] as usize);
     table[at] = table[at] | 2;
     lay(table, at + 1, &message[2..9]);
 }
@@ -155,7 +155,7 @@ fn put_partitions(table: &mut [u8], message: &[u8])
 {
     let mut p: usize = 0;
     while p < 8 {
-        let at = partition_at(p);
+        let at = partition_place(p);
         table[at] = table[at] | 1;
         table[at + 8] = message[1 + p];
         p += 1;
@@ -168,8 +168,8 @@ fn put_system(table: &mut [u8], message: &[u8])
     requires { ⌜ length (now message) ≡ 12 ⌝ }
     ensures { λ _. ⌜ now (table .exit) ≡ doneAll (systemWrites (now (message .entry))) (now (table .entry)) ⌝ }
 {
-    table[SYSTEM_AT] = 1;
-    lay(table, SYSTEM_AT + 1, &message[1..12]);
+    table[SYSTEM_PLACE] = 1;
+    lay(table, SYSTEM_PLACE + 1, &message[1..12]);
 }
 
 // Applies a message: 0, or the refusal's number, and then the table stays.
@@ -196,7 +196,7 @@ pub fn apply(table: &mut [u8], message: &[u8]) -> u8
 // A byte of a zone's record.
 fn zone_byte(table: &[u8], zone: u8, on: usize) -> Answer
     requires { ⌜ on < 8 ⌝ }
-    ensures { λ r. ⌜ Answered 0 (tableRefusal (now (table .entry))) (getD (now (table .entry)) (zoneAt zone + on) 0) (r .number) (r .value) ⌝ }
+    ensures { λ r. ⌜ Answered 0 (tableRefusal (now (table .entry))) (getD (now (table .entry)) (zonePlace zone + on) 0) (r .number) (r .value) ⌝ }
 {
     let number = table_refusal(table);
     if number != 0 {
@@ -205,7 +205,7 @@ fn zone_byte(table: &[u8], zone: u8, on: usize) -> Answer
             value: 0,
         };
     }
-    let at = zone_at(zone as usize) + on;
+    let at = zone_place(zone as usize) + on;
     Answer {
         number: 0,
         value: table[at],
@@ -255,7 +255,7 @@ pub fn zone_part<'a>(table: &'a [u8], zone: u8, number: &mut u8) -> &'a [u8]
 {
     let refused = table_refusal(table);
     *number = refused;
-    part_of(table, refused, zone_at(zone as usize) + 1, 6)
+    part_of(table, refused, zone_place(zone as usize) + 1, 6)
 }
 
 // A partition's record, for a partition of 0 to 7.
@@ -264,7 +264,7 @@ pub fn partition_part<'a>(table: &'a [u8], partition: u8, number: &mut u8) -> &'
 {
     let refused = first_of(table_refusal(table), check_partition(partition));
     *number = refused;
-    part_of(table, refused, partition_at(partition as usize), 9)
+    part_of(table, refused, partition_place(partition as usize), 9)
 }
 
 // The system record.
@@ -273,5 +273,5 @@ pub fn system_part<'a>(table: &'a [u8], number: &mut u8) -> &'a [u8]
 {
     let refused = table_refusal(table);
     *number = refused;
-    part_of(table, refused, SYSTEM_AT, 12)
+    part_of(table, refused, SYSTEM_PLACE, 12)
 }

@@ -12,7 +12,7 @@ use Rattle.standard.specs.Messages.{checkOf}
 use Rattle.standard.specs.Framing.{frameOf}
 use Rattle.standard.specs.Writer.{sumIsFF, noRoom, writeRefusal, writtenOf, afterWrite, Wrote}
 use Rattle.standard.proofs.Messages.{check-then}
-use Rattle.writer.specs.Answer.{refusing, laterRefusal}
+use Rattle.writer.specs.Refusing.{refusing, laterRefusal}
 
 module _ (m : List ℕ) (f : Framing) (out : List ℕ) (place : ℕ) where
   -- the message's own refusal comes first

@@ -9,7 +9,7 @@ use borrow.Author.Tests.{lt-ltb, le-ltb, ltb-false}
 use Rattle.standard.specs.declared.Sums.{Sums}
 use Rattle.standard.specs.Writer.{noRoom}
 use Rattle.standard.proofs.Judge.{first-none}
-use Rattle.writer.specs.Answer.{laterRefusal}
+use Rattle.writer.specs.Refusing.{laterRefusal}
 
 or-true : (t : Bool) → (t || true) ≡ true
 or-true true = refl

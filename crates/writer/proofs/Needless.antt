@@ -16,7 +16,7 @@ use Rattle.standard.specs.Framing.{startOf, coding, frameOf, unstuff}
 use Rattle.standard.specs.Judge.{wholeOf}
 use Rattle.standard.proofs.Messages.{both-true}
 use Rattle.standard.proofs.Framings.{Bytes, bytes-none, bytes-cons}
-use Rattle.writer.specs.RoundTrip.{onlyNeeded, escapesNeeded, Reads}
+use Rattle.writer.specs.RoundTrip.{onlyNeeded, escapesNeeded, HandsOut}
 
 -- 01 7D 3D 1E, and then 1F
 abbrev pub front : List ℕ
@@ -32,7 +32,7 @@ unfolding allBytes
 are-bytes [] h = bytes-none
 are-bytes (b ∷ bs) h = let both = both-true (ltb b 256) (allBytes bs) h in bytes-cons b bs (ltb-true b 256 (both .0)) (are-bytes bs (both .1))
 
-pub needless-reads : Reads Binary front 0x1F (0x1D ∷ [])
+pub needless-reads : HandsOut Binary front 0x1F (0x1D ∷ [])
 unfolding allBytes unstuff wholeOf sumsOf prefixes total lengthFor valuesOk
 needless-reads = record { bytes = are-bytes (front ++ (0x1F ∷ [])) refl; alone = refl; before = refl; said = refl }
 

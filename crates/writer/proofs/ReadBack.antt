@@ -21,8 +21,8 @@ use Rattle.standard.proofs.Sum.{never-ff}
 use Rattle.standard.proofs.Messages.{check-then}
 use Rattle.standard.proofs.Framings.{Bytes}
 use Rattle.standard.proofs.Judge.{good-check}
-use Rattle.writer.specs.Answer.{laterRefusal}
-use Rattle.writer.specs.RoundTrip.{escapesNeeded, Reads}
+use Rattle.writer.specs.Refusing.{laterRefusal}
+use Rattle.writer.specs.RoundTrip.{escapesNeeded, HandsOut}
 use Rattle.writer.proofs.Fit.{fits, fit}
 use Rattle.writer.proofs.Answers.{later-refusal}
 use Rattle.writer.proofs.RoundTrip.{write-then-read-one, read-then-write}
@@ -78,7 +78,7 @@ module _ (m : List ℕ) (f : Framing) (out : List ℕ) (place : ℕ) where
       ap (handedOf f) (put-frame a after w none (good .within)) ∙ write-then-read-one f m (good .check) b
 
   -- WHAT IS READ IS WRITTEN: a part whose escapes were needed is put again byte for byte, wherever it fits
-  pub read-written : (front : List ℕ) (last : ℕ) → Reads f front last m → escapesNeeded f (front ++ (last ∷ [])) ≡ true
+  pub read-written : (front : List ℕ) (last : ℕ) → HandsOut f front last m → escapesNeeded f (front ++ (last ∷ [])) ≡ true
       → place ≤ length out → length (startOf f ∷ front ++ (last ∷ [])) ≤ length out - place
       → (a : Written) (after : List ℕ) → Wrote m f out place a after → (a .number ≡ 0) × (put a after ≡ startOf f ∷ front ++ (last ∷ []))
   unfolding writtenOf

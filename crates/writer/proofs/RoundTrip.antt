@@ -20,7 +20,7 @@ use Rattle.standard.proofs.Messages.{both-true}
 use Rattle.standard.proofs.Framings.{Sent, start-escaped, escape-escaped, as-it-is, sent, Bytes, bytes-none, bytes-cons, bytes-append, body-bytes, coding-bytes, Again, again-none, again-one, pairs-again}
 use Rattle.standard.proofs.Judge.{other-head, judge-frame, good-begins, last-decides}
 use Rattle.standard.proofs.Stream.{no-start, handed-frame, handed-amid}
-use Rattle.writer.specs.RoundTrip.{onlyNeeded, escapesNeeded, Reads}
+use Rattle.writer.specs.RoundTrip.{onlyNeeded, escapesNeeded, HandsOut}
 
 -- ---- writing, then reading
 
@@ -96,7 +96,7 @@ nothing-behind f front last m (x ∷ tail) u h b e =
     absurd (omega arith)
 
 -- READING, THEN WRITING: a part up to its deciding byte that hands out m, and whose escapes were needed, is the frame of m
-pub read-then-write : (f : Framing) (front : List ℕ) (last : ℕ) (m : List ℕ) → Reads f front last m → escapesNeeded f (front ++ (last ∷ [])) ≡ true
+pub read-then-write : (f : Framing) (front : List ℕ) (last : ℕ) (m : List ℕ) → HandsOut f front last m → escapesNeeded f (front ++ (last ∷ [])) ≡ true
     → frameOf f m ≡ startOf f ∷ front ++ (last ∷ [])
 unfolding frameOf
 read-then-write f front last m r h =
@@ -132,7 +132,7 @@ pub record FrameReads (f : Framing) (m : List ℕ) : Type 0 where
   pub front : List ℕ
   pub last : ℕ
   pub is : frameOf f m ≡ startOf f ∷ front ++ (last ∷ [])
-  pub reads : Reads f front last m
+  pub reads : HandsOut f front last m
   pub needed : escapesNeeded f (front ++ (last ∷ [])) ≡ true
 
 -- EVERY FRAME IS SUCH A PART, so that the second round trip speaks of each: it hands out its message, and at its last byte

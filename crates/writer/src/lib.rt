@@ -10,7 +10,7 @@ ghost use Rattle.standard.specs.Sums.{sumsOf};
 ghost use Rattle.standard.specs.Framing.{startOf, stopOf, stuffed, twoDigits, coded, coding, bodyOf};
 ghost use Rattle.standard.specs.Framing.{digit as Framing·digit};
 ghost use Rattle.standard.specs.Writer.{Wrote};
-ghost use Rattle.writer.specs.Answer.{refusing, laterRefusal};
+ghost use Rattle.writer.specs.Refusing.{refusing, laterRefusal};
 use standard::Framing;
 use standard::Sums;
 use standard::Written;

@@ -11,14 +11,14 @@ framing-for-requires c κs = search needs
 fresh-requires : tie.Need-fresh-requires
 fresh-requires c κs = search needs
 
-line-reader-requires : tie.Need-line-reader-requires
-line-reader-requires c κs =
+c-reader-requires : tie.Need-c-reader-requires
+c-reader-requires c κs =
     let none : c .fresh .result .held ≡ 0 = ap (λ (r : Reader). r .held) (c .fresh .ensures) in
     omega arith
 
 returns : tie.Need-returns
-returns c = rw (c .line-reader .ensures, c .before .fresh .ensures, c .before .before .framing-for .ensures)
+returns c = rw (c .c-reader .ensures, c .before .fresh .ensures, c .before .before .framing-for .ensures)
 
 pub nx584-fresh-spec : {M : Type 1} → statement M
 nx584-fresh-spec =
-    tie.close (tie.spec framing-for-requires fresh-requires line-reader-requires returns)
+    tie.close (tie.spec framing-for-requires fresh-requires c-reader-requires returns)

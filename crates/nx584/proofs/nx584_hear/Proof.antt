@@ -6,9 +6,9 @@ use lib.Dec.{eqb}
 use lib.ListN.{take}
 use Rattle.standard.specs.Replies.{replyOf}
 use Rattle.standard.specs.Table.{tableAfter, appliedTo}
-use Rattle.nx584.specs.declared.LineReading.{LineReading}
-use Rattle.nx584.specs.Boundary.{withReply, lineHearing, lineRead, LineAnswer}
-use Rattle.nx584.proofs.Lines.{heard-line, heard-refused, hear-refused, reply-said, stored-line, line-short}
+use Rattle.nx584.specs.declared.CReading.{CReading}
+use Rattle.nx584.specs.Boundary.{withReply, cHearing, cRead, CGiven}
+use Rattle.nx584.proofs.InC.{heard-c, heard-refused, hear-refused, reply-said, stored-c, c-short}
 use borrow.Author.Needs.{needs}
 use Rattle.nx584.proofs.nx584_hear.Statement.{statement}
 use Rattle.nx584.proofs.nx584_hear.Tie as tie
@@ -30,7 +30,7 @@ nx584-read-requires : tie.Need-nx584-read-requires
 nx584-read-requires c κs = search needs
 
 store-requires : tie.Need-store-requires
-store-requires c κs = rw (c .before .nx584-read .ensures) (line-short (c .before .before .before .before .before .args .reader) (c .before .before .before .before .before .args .bytes .now))
+store-requires c κs = rw (c .before .nx584-read .ensures) (c-short (c .before .before .before .before .before .args .reader) (c .before .before .before .before .before .args .bytes .now))
 
 nx584-reply-requires : tie.Need-nx584-reply-requires
 nx584-reply-requires c κs = search needs
@@ -46,16 +46,16 @@ returns-2 c =
     let args = c .before .before .before .before .before .before .before .before .before .before .args in
     let t = args .table .now in
     let read = c .before .before .before .before .before .before .nx584-read .ensures in
-    let a = lineRead (args .reader) (args .bytes .now) in
-    let line = heard-line (args .reader) t (args .bytes .now) (c .before .before .before .before .before .before .before .if1 .left) in
-    let reply = c .before .nx584-reply .ensures ∙ ap (λ (x : LineReading). replyOf (x .verdict) (x .«type_byte»)) read ∙ reply-said (a .said) in
+    let a = cRead (args .reader) (args .bytes .now) in
+    let line = heard-c (args .reader) t (args .bytes .now) (c .before .before .before .before .before .before .before .if1 .left) in
+    let reply = c .before .nx584-reply .ensures ∙ ap (λ (x : CReading). replyOf (x .verdict) (x .«type_byte»)) read ∙ reply-said (a .said) in
     record {
-      says = c .with-reply2 .ensures ∙ ap₂ withReply read reply ∙ sym (ap lineHearing line);
+      says = c .with-reply2 .ensures ∙ ap₂ withReply read reply ∙ sym (ap cHearing line);
       leaves =
           c .before .before .before .before .store .ensures
-          ∙ ap (λ (x : LineReading). cond (eqb (x .verdict) 0) (appliedTo t (take (x .length) (x .message))) t) read
-          ∙ stored-line (args .reader) t (args .bytes .now)
-          ∙ sym (ap (λ (x : LineAnswer). tableAfter t (x .said)) line);
+          ∙ ap (λ (x : CReading). cond (eqb (x .verdict) 0) (appliedTo t (take (x .length) (x .message))) t) read
+          ∙ stored-c (args .reader) t (args .bytes .now)
+          ∙ sym (ap (λ (x : CGiven). tableAfter t (x .said)) line);
     }
 
 pub nx584-hear-spec : {M : Type 1} → statement M

@@ -6,8 +6,8 @@ use mathlib.Core.Bool.{true}
 use lib.ListN.{length, length-take}
 use Rattle.reader.specs.declared.Reader.{Reader}
 use Rattle.reader.specs.Read.{readOf, Reads}
-use Rattle.nx584.specs.Boundary.{readerFor, lineReader, lineReading, lengthSaid, numbersSaid, soundLine}
-use Rattle.nx584.proofs.Lines.{line-sound, read-took, read-refused, took-fits, took-line, length-said, said-line}
+use Rattle.nx584.specs.Boundary.{readerFor, cReader, cReading, lengthSaid, numbersSaid, soundC}
+use Rattle.nx584.proofs.InC.{c-sound, read-took, read-refused, took-fits, took-c, length-said, said-c}
 use borrow.Author.Needs.{needs}
 use Rattle.nx584.proofs.nx584_read.Statement.{statement}
 use Rattle.nx584.proofs.nx584_read.Tie as tie
@@ -16,8 +16,8 @@ use Rattle.nx584.proofs.nx584_read.Tie as tie
 abbrev after : tie.After-scan → Reader
 after c = record { mode = c .scan .result .mode; held = c .scan .result .held; bytes = c .scan .last .1 .1 .0 }
 
-sound : (c : tie.Else1) → soundLine (c .before .before .before .args .reader) ≡ true
-sound c = sym (c .before .sound-line .ensures) ∙ not-false _ (c .if1 .left)
+sound : (c : tie.Else1) → soundC (c .before .before .before .args .reader) ≡ true
+sound c = sym (c .before .sound-c .ensures) ∙ not-false _ (c .if1 .left)
 
 told : (c : tie.After-scan) → Reads (readerFor (c .before .before .before .before .before .before .before .args .reader)) (c .before .before .before .before .before .before .before .args .bytes .now) (after c) (c .scan .result .used) (c .scan .result .said)
 told c = rw (c .before .before .before .reader-for .ensures) at (c .scan .ensures)
@@ -25,13 +25,13 @@ told c = rw (c .before .before .before .reader-for .ensures) at (c .scan .ensure
 fits : (c : tie.After-scan) → (c .scan .result .held ≤ 65535) × (lengthSaid (c .scan .result .said) ≤ 18)
 fits c =
     let s = c .before .before .before .before .before .before .before in
-    took-fits (readerFor (s .args .reader)) (s .args .bytes .now) (after c) (c .scan .result .said) (line-sound (s .args .reader) (sound (c .before .before .before .before))) (told c .gives)
+    took-fits (readerFor (s .args .reader)) (s .args .bytes .now) (after c) (c .scan .result .said) (c-sound (s .args .reader) (sound (c .before .before .before .before))) (told c .gives)
 
 few : (c : tie.After-numbers) → c .numbers .result .length ≤ 18
 few c = rw (c .numbers .ensures, length-said (c .before .before .scan .result .said)) (fits (c .before .before) .1)
 
-sound-line-requires : tie.Need-sound-line-requires
-sound-line-requires c κs = search needs
+sound-c-requires : tie.Need-sound-c-requires
+sound-c-requires c κs = search needs
 
 refused-requires : tie.Need-refused-requires
 refused-requires c κs = search needs
@@ -39,8 +39,8 @@ refused-requires c κs = search needs
 returns : tie.Need-returns
 returns c =
     let start = c .before .before .before .before in
-    let h = sym (c .before .before .sound-line .ensures) ∙ not-true _ (c .before .if1 .taken) in
-    c .refused .ensures ∙ ap lineReading (sym (read-refused (start .args .reader) (start .args .bytes .now) h))
+    let h = sym (c .before .before .sound-c .ensures) ∙ not-true _ (c .before .if1 .taken) in
+    c .refused .ensures ∙ ap cReading (sym (read-refused (start .args .reader) (start .args .bytes .now) h))
 
 reader-for-requires : tie.Need-reader-for-requires
 reader-for-requires c κs = search needs
@@ -89,16 +89,16 @@ returns-2 c =
     let h = fits scan .1 in
     let message = rw n at (c .before .in-array .ensures) in
     c .took .ensures ∙ rw n
-    (said-line (lineReader r) (scan .scan .result .used) said (scan .scan .last .1 .1 .0) (c .before .in-array .result) (omega arith) message
-    ∙ ap lineReading
-    (took-line (readOf (readerFor (s .args .reader)) (s .args .bytes .now)) r (scan .scan .result .used) said (told scan .gives) (told scan .uses)
+    (said-c (cReader r) (scan .scan .result .used) said (scan .scan .last .1 .1 .0) (c .before .in-array .result) (omega arith) message
+    ∙ ap cReading
+    (took-c (readOf (readerFor (s .args .reader)) (s .args .bytes .now)) r (scan .scan .result .used) said (told scan .gives) (told scan .uses)
     ∙ sym (read-took (s .args .reader) (s .args .bytes .now) (sound (c .before .before .before .before .before .before .before .before .before .before .before)))))
 
 pub nx584-read-spec : {M : Type 1} → statement M
 nx584-read-spec =
     tie.close
     (tie.spec
-    sound-line-requires
+    sound-c-requires
     refused-requires
     returns
     reader-for-requires

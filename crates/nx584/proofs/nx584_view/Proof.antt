@@ -1,5 +1,5 @@
 use mathlib.Core.Path.{ap}
-use Rattle.nx584.specs.Boundary.{lineOverview}
+use Rattle.nx584.specs.Boundary.{cOverview}
 use borrow.Author.Needs.{needs}
 use Rattle.nx584.proofs.nx584_view.Statement.{statement}
 use Rattle.nx584.proofs.nx584_view.Tie as tie
@@ -7,15 +7,15 @@ use Rattle.nx584.proofs.nx584_view.Tie as tie
 view-requires : tie.Need-view-requires
 view-requires c κs = search needs
 
-line-groups-requires : tie.Need-line-groups-requires
-line-groups-requires c κs = search needs
+c-groups-requires : tie.Need-c-groups-requires
+c-groups-requires c κs = search needs
 
-line-group-requires : tie.Need-line-group-requires
-line-group-requires c κs = search needs
+c-group-requires : tie.Need-c-group-requires
+c-group-requires c κs = search needs
 
 returns : tie.Need-returns
-returns c = rw (c .line-group .ensures, c .before .line-groups .ensures) (ap lineOverview (c .before .before .before .before .view .ensures))
+returns c = rw (c .c-group .ensures, c .before .c-groups .ensures) (ap cOverview (c .before .before .before .before .view .ensures))
 
 pub nx584-view-spec : {M : Type 1} → statement M
 nx584-view-spec =
-    tie.close (tie.spec view-requires line-groups-requires line-group-requires returns)
+    tie.close (tie.spec view-requires c-groups-requires c-group-requires returns)

@@ -1,5 +1,5 @@
 use mathlib.Core.Path.{ap}
-use Rattle.nx584.specs.Boundary.{lineWritten}
+use Rattle.nx584.specs.Boundary.{cWritten}
 use borrow.Author.Needs.{needs}
 use Rattle.nx584.proofs.nx584_write.Statement.{statement}
 use Rattle.nx584.proofs.nx584_write.Tie as tie
@@ -16,7 +16,7 @@ same-length c = search needs
 returns : tie.Need-returns
 returns c =
     let w = rw (c .before .before .before .before .framing-for .ensures) at (c .before .before .write .ensures) in
-    record { says = ap lineWritten (w .says); leaves = w .leaves }
+    record { says = ap cWritten (w .says); leaves = w .leaves }
 
 pub nx584-write-spec : {M : Type 1} → statement M
 nx584-write-spec = tie.close (tie.spec framing-for-requires write-requires same-length returns)

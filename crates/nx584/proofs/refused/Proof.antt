@@ -1,4 +1,4 @@
-use Rattle.nx584.proofs.Lines.{no-type, no-message}
+use Rattle.nx584.proofs.InC.{no-type, no-message}
 use Rattle.nx584.proofs.refused.Statement.{statement}
 use Rattle.nx584.proofs.refused.Tie as tie
 

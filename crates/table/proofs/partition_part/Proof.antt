@@ -27,8 +27,8 @@ check-partition-requires c κs = search needs
 first-of-requires : tie.Need-first-of-requires
 first-of-requires c κs = search needs
 
-partition-at-requires : tie.Need-partition-at-requires
-partition-at-requires c κs = search needs
+partition-place-requires : tie.Need-partition-place-requires
+partition-place-requires c κs = search needs
 
 part-of-requires : tie.Need-part-of-requires
 part-of-requires c κs =
@@ -38,7 +38,7 @@ part-of-requires c κs =
     omega arith
 
 returns : tie.Need-returns
-returns c = answer-by (number (c .before .before)) (rw (c .before .partition-at .ensures) at (c .part-of .ensures))
+returns c = answer-by (number (c .before .before)) (rw (c .before .partition-place .ensures) at (c .part-of .ensures))
 
 pub partition-part-spec : {M : Type 1} → statement M
 partition-part-spec =
@@ -47,6 +47,6 @@ partition-part-spec =
     table-refusal-requires
     check-partition-requires
     first-of-requires
-    partition-at-requires
+    partition-place-requires
     part-of-requires
     returns)

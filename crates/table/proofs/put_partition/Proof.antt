@@ -7,19 +7,19 @@ use lib.ListN.{getD, take, drop, set, length-set, length-take, length-drop}
 use lib.Seq.{sets}
 use borrow.Author.Needs.{needs}
 use Rattle.standard.specs.Words.{byte}
-use Rattle.standard.specs.Table.{partitionAt}
+use Rattle.standard.specs.Table.{partitionPlace}
 use Rattle.standard.proofs.Table.{mark-run}
 use Rattle.table.proofs.put_partition.Statement.{statement}
 use Rattle.table.proofs.put_partition.Tie as tie
 
-shared-slice-read-partition-at : tie.Need-shared-slice-read-partition-at
-shared-slice-read-partition-at c = search needs
+shared-slice-read-partition-place : tie.Need-shared-slice-read-partition-place
+shared-slice-read-partition-place c = search needs
 
-cast-partition-at : tie.Need-cast-partition-at
-cast-partition-at c = search needs
+cast-partition-place : tie.Need-cast-partition-place
+cast-partition-place c = search needs
 
-partition-at-requires : tie.Need-partition-at-requires
-partition-at-requires c κs = search needs
+partition-place-requires : tie.Need-partition-place-requires
+partition-place-requires c κs = search needs
 
 slice-read-table : tie.Need-slice-read-table
 slice-read-table c = search needs
@@ -51,16 +51,16 @@ returns c =
     let t = a .table .now in
     let run = take 7 (drop 2 (a .message .now)) in
     c .before .before .lay .ensures
-    ∙ ap (λ (at : ℕ). sets (set t at (bitOr (getD t at 0) 2)) (at + 1) run) (c .before .before .before .before .before .before .partition-at .ensures)
-    ∙ sym (mark-run (partitionAt (byte 2 (a .message .now))) 2 run t)
+    ∙ ap (λ (at : ℕ). sets (set t at (bitOr (getD t at 0) 2)) (at + 1) run) (c .before .before .before .before .before .before .partition-place .ensures)
+    ∙ sym (mark-run (partitionPlace (byte 2 (a .message .now))) 2 run t)
 
 pub put-partition-spec : {M : Type 1} → statement M
 put-partition-spec =
     tie.close
     (tie.spec
-    shared-slice-read-partition-at
-    cast-partition-at
-    partition-at-requires
+    shared-slice-read-partition-place
+    cast-partition-place
+    partition-place-requires
     slice-read-table
     slice-write-table
     add-lay

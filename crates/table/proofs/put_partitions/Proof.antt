@@ -5,7 +5,7 @@ use mathlib.Core.Path.{_≡_, refl, ap, _∙_}
 use mathlib.Core.List.{flatMap}
 use lib.ListN.{length, getD, length-set}
 use Rattle.standard.specs.Words.{byte, upTo}
-use Rattle.standard.specs.Table.{tableBytes, partitionAt, partitionShort, doneAll}
+use Rattle.standard.specs.Table.{tableBytes, partitionPlace, partitionShort, doneAll}
 use Rattle.standard.proofs.Table.{heard-more}
 use Rattle.table.proofs.put_partitions.Statement.{statement}
 use Rattle.table.proofs.put_partitions.Tie as tie
@@ -20,8 +20,8 @@ loop-holds : tie.Need-loop-holds Inv-loop μ-loop
 unfolding flatMap upTo doneAll
 loop-holds c = (refl, omega arith, omega arith)
 
-partition-at-requires : tie.Need-partition-at-requires Inv-loop μ-loop
-partition-at-requires c κs = omega arith
+partition-place-requires : tie.Need-partition-place-requires Inv-loop μ-loop
+partition-place-requires c κs = omega arith
 
 slice-read-table : tie.Need-slice-read-table Inv-loop μ-loop
 slice-read-table c = omega arith
@@ -54,7 +54,7 @@ loop-again c =
     let m = a .message .now in
     let p = at .loop .p in
     let e : 1 + p ≡ 2 + p - 1 = omega arith in (
-      heard-more partitionAt 8 (λ q. byte (2 + q) m) p (a .table .now) (at .loop .inv .0) (c .before .before .partition-at .ensures) (ap (λ i. getD m i 0) e),
+      heard-more partitionPlace 8 (λ q. byte (2 + q) m) p (a .table .now) (at .loop .inv .0) (c .before .before .partition-place .ensures) (ap (λ i. getD m i 0) e),
       omega arith,
       simp length-set (at .loop .inv .2),
     )
@@ -76,7 +76,7 @@ put-partitions-spec =
     Inv-loop
     μ-loop
     loop-holds
-    partition-at-requires
+    partition-place-requires
     slice-read-table
     slice-write-table
     add-table

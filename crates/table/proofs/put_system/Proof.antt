@@ -4,7 +4,7 @@ use mathlib.Core.Path.{sym, _∙_}
 use mathlib.Core.List.{_∷_}
 use lib.ListN.{take, drop, length-set, length-take, length-drop}
 use borrow.Author.Needs.{needs}
-use Rattle.standard.specs.Table.{systemAt}
+use Rattle.standard.specs.Table.{systemPlace}
 use Rattle.standard.proofs.Table.{doneAll-run}
 use Rattle.table.proofs.put_system.Statement.{statement}
 use Rattle.table.proofs.put_system.Tie as tie
@@ -33,7 +33,7 @@ same-length c = c .before .before .lay .kept .0 ∙ simp length-set
 returns : tie.Need-returns
 returns c =
     let a = c .before .before .before .before .before .before .before .args in
-    c .before .before .lay .ensures ∙ sym (doneAll-run systemAt (1 ∷ take 11 (drop 1 (a .message .now))) (a .table .now))
+    c .before .before .lay .ensures ∙ sym (doneAll-run systemPlace (1 ∷ take 11 (drop 1 (a .message .now))) (a .table .now))
 
 pub put-system-spec : {M : Type 1} → statement M
 put-system-spec =

@@ -8,7 +8,7 @@ use lib.ListN.{length, getD, take, drop, set, length-set, length-take, length-dr
 use lib.Seq.{sets, drop-cons}
 use borrow.Author.Needs.{needs}
 use Rattle.standard.specs.Words.{byte}
-use Rattle.standard.specs.Table.{zoneAt, shortFrom, zoneWrites, doneAll}
+use Rattle.standard.specs.Table.{zonePlace, shortFrom, zoneWrites, doneAll}
 use Rattle.standard.proofs.Put.{sets-append}
 use Rattle.standard.proofs.Table.{mark-run}
 use Rattle.standard.proofs.Applied.{zoneRun}
@@ -27,10 +27,10 @@ run-of m h =
       drop-cons m 7 0 (omega arith),
     )
 
-stored : (t m : List ℕ) {last : List ℕ} {at s : ℕ} → length m ≡ 8 → at ≡ zoneAt (byte 2 m) → s ≡ shortFrom (byte 7 m) (byte 8 m)
+stored : (t m : List ℕ) {last : List ℕ} {at s : ℕ} → length m ≡ 8 → at ≡ zonePlace (byte 2 m) → s ≡ shortFrom (byte 7 m) (byte 8 m)
     → last ≡ sets (set t at (bitOr (getD t at 0) 3)) (at + 1) (take 6 (drop 2 m)) → set last (at + 7) s ≡ doneAll (zoneWrites m) t
 stored t m {last} {at} {s} h p q e =
-    let place = zoneAt (byte 2 m) in
+    let place = zonePlace (byte 2 m) in
     let run = take 6 (drop 2 m) in
     let short = shortFrom (byte 7 m) (byte 8 m) in
     let marked = set t place (bitOr (getD t place 0) 3) in
@@ -42,14 +42,14 @@ stored t m {last} {at} {s} h p q e =
     ∙ ap (sets marked (place + 1)) (run-of m h)
     ∙ sym (mark-run place 3 (zoneRun m) t)
 
-shared-slice-read-zone-at : tie.Need-shared-slice-read-zone-at
-shared-slice-read-zone-at c = search needs
+shared-slice-read-zone-place : tie.Need-shared-slice-read-zone-place
+shared-slice-read-zone-place c = search needs
 
-cast-zone-at : tie.Need-cast-zone-at
-cast-zone-at c = omega (arith, c .shared-slice-known2 .given 1)
+cast-zone-place : tie.Need-cast-zone-place
+cast-zone-place c = omega (arith, c .shared-slice-known2 .given 1)
 
-zone-at-requires : tie.Need-zone-at-requires
-zone-at-requires c κs = omega (arith, c .shared-slice-known2 .given 1)
+zone-place-requires : tie.Need-zone-place-requires
+zone-place-requires c κs = omega (arith, c .shared-slice-known2 .given 1)
 
 slice-read-table : tie.Need-slice-read-table
 slice-read-table c = omega (arith, c .before .before .shared-slice-known2 .given 1)
@@ -99,15 +99,15 @@ returns : tie.Need-returns
 returns c =
     let call = c .before .before .before .before .before in
     let start = call .before .before .before .before .before .before .before .before in
-    stored (start .args .table .now) (start .args .message .now) (start .pre .1) (call .before .before .before .before .zone-at .ensures) (c .short-from .ensures) (call .lay .ensures)
+    stored (start .args .table .now) (start .args .message .now) (start .pre .1) (call .before .before .before .before .zone-place .ensures) (c .short-from .ensures) (call .lay .ensures)
 
 pub put-zone-spec : {M : Type 1} → statement M
 put-zone-spec =
     tie.close
     (tie.spec
-    shared-slice-read-zone-at
-    cast-zone-at
-    zone-at-requires
+    shared-slice-read-zone-place
+    cast-zone-place
+    zone-place-requires
     slice-read-table
     slice-write-table
     add-lay

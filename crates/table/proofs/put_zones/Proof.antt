@@ -6,7 +6,7 @@ use mathlib.Core.List.{flatMap}
 use lib.ListN.{length, getD, length-set}
 use borrow.Author.Needs.{needs}
 use Rattle.standard.specs.Words.{byte, upTo}
-use Rattle.standard.specs.Table.{tableBytes, zoneAt, fourBits, shortWrites, doneAll}
+use Rattle.standard.specs.Table.{tableBytes, zonePlace, fourBits, shortWrites, doneAll}
 use Rattle.standard.proofs.Table.{heard-more}
 use Rattle.table.proofs.put_zones.Statement.{statement}
 use Rattle.table.proofs.put_zones.Tie as tie
@@ -27,11 +27,11 @@ loop-holds : tie.Need-loop-holds Inv-loop μ-loop
 unfolding flatMap upTo doneAll
 loop-holds c = (refl, omega arith, omega arith)
 
-add-zone-at : tie.Need-add-zone-at Inv-loop μ-loop
-add-zone-at c = omega arith
+add-zone-place : tie.Need-add-zone-place Inv-loop μ-loop
+add-zone-place c = omega arith
 
-zone-at-requires : tie.Need-zone-at-requires Inv-loop μ-loop
-zone-at-requires c κs = omega arith
+zone-place-requires : tie.Need-zone-place-requires Inv-loop μ-loop
+zone-place-requires c κs = omega arith
 
 slice-read-table : tie.Need-slice-read-table Inv-loop μ-loop
 slice-read-table c = omega arith
@@ -67,8 +67,8 @@ loop-again c =
     let m = a .message .now in
     let j = at .loop .j in
     let e : 2 + j / 2 ≡ 3 + j / 2 - 1 = omega arith in (
-      heard-more (λ i. zoneAt (byte 2 m + i)) 7 (λ i. fourBits i (byte (3 + i / 2) m)) j (a .table .now) (at .loop .inv .0)
-          (c .before .before .before .zone-at .ensures) (c .four-bits .ensures ∙ ap (λ i. fourBits j (getD m i 0)) e),
+      heard-more (λ i. zonePlace (byte 2 m + i)) 7 (λ i. fourBits i (byte (3 + i / 2) m)) j (a .table .now) (at .loop .inv .0)
+          (c .before .before .before .zone-place .ensures) (c .four-bits .ensures ∙ ap (λ i. fourBits j (getD m i 0)) e),
       omega arith,
       simp length-set (at .loop .inv .2),
     )
@@ -92,8 +92,8 @@ put-zones-spec =
     shared-slice-read-first
     cast-first
     loop-holds
-    add-zone-at
-    zone-at-requires
+    add-zone-place
+    zone-place-requires
     slice-read-table
     slice-write-table
     add-four-bits

@@ -12,8 +12,8 @@ table-refusal-requires c κs = search needs
 returns : tie.Need-returns
 returns c = answer-refused (c .before .table-refusal .ensures) (c .if1 .taken)
 
-zone-at-requires : tie.Need-zone-at-requires
-zone-at-requires c κs = search needs
+zone-place-requires : tie.Need-zone-place-requires
+zone-place-requires c κs = search needs
 
 add-at : tie.Need-add-at
 add-at c = search needs
@@ -25,9 +25,9 @@ shared-slice-read-t10 c =
     omega arith
 
 returns-2 : tie.Need-returns-2
-returns-2 c = rw (c .before .zone-at .ensures) (answer-given (c .before .before .before .table-refusal .ensures) (c .before .before .if1 .left))
+returns-2 c = rw (c .before .zone-place .ensures) (answer-given (c .before .before .before .table-refusal .ensures) (c .before .before .if1 .left))
 
 pub zone-byte-spec : {M : Type 1} → statement M
 zone-byte-spec =
     tie.close
-    (tie.spec table-refusal-requires returns zone-at-requires add-at shared-slice-read-t10 returns-2)
+    (tie.spec table-refusal-requires returns zone-place-requires add-at shared-slice-read-t10 returns-2)

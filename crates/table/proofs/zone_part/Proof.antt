@@ -9,8 +9,8 @@ use Rattle.table.proofs.zone_part.Tie as tie
 table-refusal-requires : tie.Need-table-refusal-requires
 table-refusal-requires c κs = search needs
 
-zone-at-requires : tie.Need-zone-at-requires
-zone-at-requires c κs = search needs
+zone-place-requires : tie.Need-zone-place-requires
+zone-place-requires c κs = search needs
 
 add-part-of : tie.Need-add-part-of
 add-part-of c = search needs
@@ -19,8 +19,8 @@ part-of-requires : tie.Need-part-of-requires
 part-of-requires c κs = λ z. let h = asked-whole (c .before .before .before .args .table .now) (sym (c .before .table-refusal .ensures) ∙ z) in omega arith
 
 returns : tie.Need-returns
-returns c = answer-by (c .before .before .table-refusal .ensures) (rw (c .before .zone-at .ensures) at (c .part-of .ensures))
+returns c = answer-by (c .before .before .table-refusal .ensures) (rw (c .before .zone-place .ensures) at (c .part-of .ensures))
 
 pub zone-part-spec : {M : Type 1} → statement M
 zone-part-spec =
-    tie.close (tie.spec table-refusal-requires zone-at-requires add-part-of part-of-requires returns)
+    tie.close (tie.spec table-refusal-requires zone-place-requires add-part-of part-of-requires returns)

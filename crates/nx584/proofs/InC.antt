@@ -18,15 +18,15 @@ use Rattle.standard.specs.Replies.{replyOf}
 use Rattle.standard.specs.Table.{tableBytes, tableAfter, appliedTo}
 use Rattle.standard.proofs.Messages.{both-true}
 use Rattle.reader.specs.declared.Reader.{Reader}
-use Rattle.reader.specs.Read.{Answer, soundReader, readOf, Gives}
+use Rattle.reader.specs.Read.{Given, soundReader, readOf, Gives}
 use Rattle.reader.proofs.Soundness.{sound-held}
 use Rattle.reader.proofs.Arrays.{sound-read}
 use Rattle.reader.proofs.Short.{Short, read-short}
 use Rattle.reader.proofs.Handing.{saidFor, one-verdict}
 use Rattle.host.specs.Hear.{replyTo}
-use Rattle.nx584.specs.declared.LineReader.{LineReader}
-use Rattle.nx584.specs.declared.LineHearing.{LineHearing}
-use Rattle.nx584.specs.Boundary.{readerFor, soundLine, numberSaid, typeSaid, messageSaid, lengthSaid, numbersSaid, padded, lineReader, lineReading, withReply, lineHearing, LineAnswer, lineTook, lineRefused, lineRead, lineHeard, LineHears}
+use Rattle.nx584.specs.declared.CReader.{CReader}
+use Rattle.nx584.specs.declared.CHearing.{CHearing}
+use Rattle.nx584.specs.Boundary.{readerFor, soundC, numberSaid, typeSaid, messageSaid, lengthSaid, numbersSaid, padded, cReader, cReading, withReply, cHearing, CGiven, cTook, cRefused, cRead, cHeard, CHears}
 
 same-both : {A : Type 0} (t : Bool) (x : A) → cond t x x ≡ x
 same-both true x = refl
@@ -48,27 +48,27 @@ few-said (Gave v) (h ∷ hs) e k =
     omega arith
 
 -- soundness as the code asks it
-pub no-mode : (c : LineReader) → 3 < c .mode → soundLine c ≡ false
-unfolding soundLine
+pub no-mode : (c : CReader) → 3 < c .mode → soundC c ≡ false
+unfolding soundC
 no-mode c h = rw (lt-leb (c .mode) 3 h)
 
-pub no-digit : (c : LineReader) → c .mode ≡ 3 → 15 < c .digit → soundLine c ≡ false
-unfolding soundLine
+pub no-digit : (c : CReader) → c .mode ≡ 3 → 15 < c .digit → soundC c ≡ false
+unfolding soundC
 no-digit c e h = rw (e, lt-leb (c .digit) 15 h)
 
-pub a-digit : (c : LineReader) → c .mode ≡ 3 → c .digit ≤ 15 → soundLine c ≡ soundReader (readerFor c)
-unfolding soundLine
+pub a-digit : (c : CReader) → c .mode ≡ 3 → c .digit ≤ 15 → soundC c ≡ soundReader (readerFor c)
+unfolding soundC
 a-digit c e h = rw (le-leb (c .mode) 3 (omega arith), eq-eqb (c .mode) 3 e, le-leb (c .digit) 15 h)
 
-pub another-mode : (c : LineReader) → c .mode ≤ 3 → (c .mode ≡ 3 → ⊥) → soundLine c ≡ soundReader (readerFor c)
-unfolding soundLine
+pub another-mode : (c : CReader) → c .mode ≤ 3 → (c .mode ≡ 3 → ⊥) → soundC c ≡ soundReader (readerFor c)
+unfolding soundC
 another-mode c h e = rw (le-leb (c .mode) 3 h, ne-eqb (c .mode) 3 e)
 
 -- a verdict and its message, which stands in the reader's bytes
-pub gave-line : (reader : LineReader) (used : ℕ) (v : Verdict) (bytes message : List ℕ) → v .length + 1 ≤ length bytes
+pub gave-line : (reader : CReader) (used : ℕ) (v : Verdict) (bytes message : List ℕ) → v .length + 1 ≤ length bytes
     → message ≡ padded (take (v .length + 1 - 1) (drop 1 bytes))
     → record { reader = reader; used = used; verdict = v .number; «type_byte» = v .«type_byte»; length = v .length; message = message }
-    ≡ lineReading (record { reader = reader; used = used; said = handedIn (Gave v) bytes })
+    ≡ cReading (record { reader = reader; used = used; said = handedIn (Gave v) bytes })
 gave-line reader used v bytes message h e =
     let same : v .length + 1 - 1 ≡ v .length = omega arith in
     let size : length (take (v .length) (drop 1 bytes)) ≡ v .length = length-take-le (v .length) (drop 1 bytes) (omega (arith, length-drop 1 bytes)) in
@@ -76,26 +76,26 @@ gave-line reader used v bytes message h e =
 
 -- ---- a read by numbers
 
-pub line-sound : (c : LineReader) → soundLine c ≡ true → soundReader (readerFor c) ≡ true
-unfolding soundLine
-line-sound c h =
+pub c-sound : (c : CReader) → soundC c ≡ true → soundReader (readerFor c) ≡ true
+unfolding soundC
+c-sound c h =
     let first = both-true (leb (c .mode) 3) (cond (eqb (c .mode) 3) (leb (c .digit) 15) true && soundReader (readerFor c)) h in
     both-true (cond (eqb (c .mode) 3) (leb (c .digit) 15) true) (soundReader (readerFor c)) (first .1) .1
 
-pub read-took : (c : LineReader) (bs : List ℕ) → soundLine c ≡ true → lineRead c bs ≡ lineTook (readOf (readerFor c) bs)
-unfolding lineRead
+pub read-took : (c : CReader) (bs : List ℕ) → soundC c ≡ true → cRead c bs ≡ cTook (readOf (readerFor c) bs)
+unfolding cRead
 read-took c bs h = rw h
 
-pub read-refused : (c : LineReader) (bs : List ℕ) → soundLine c ≡ false → lineRead c bs ≡ lineRefused c 12
-unfolding lineRead
+pub read-refused : (c : CReader) (bs : List ℕ) → soundC c ≡ false → cRead c bs ≡ cRefused c 12
+unfolding cRead
 read-refused c bs h = rw h
 
-pub heard-line : (c : LineReader) (t bs : List ℕ) → length t ≡ tableBytes → lineHeard c t bs ≡ lineRead c bs
-unfolding lineHeard
-heard-line c t bs h = rw (eq-eqb (length t) tableBytes h)
+pub heard-c : (c : CReader) (t bs : List ℕ) → length t ≡ tableBytes → cHeard c t bs ≡ cRead c bs
+unfolding cHeard
+heard-c c t bs h = rw (eq-eqb (length t) tableBytes h)
 
-pub heard-refused : (c : LineReader) (t bs : List ℕ) → (length t ≡ tableBytes → ⊥) → lineHeard c t bs ≡ lineRefused c 11
-unfolding lineHeard
+pub heard-refused : (c : CReader) (t bs : List ℕ) → (length t ≡ tableBytes → ⊥) → cHeard c t bs ≡ cRefused c 11
+unfolding cHeard
 heard-refused c t bs h = rw (ne-eqb (length t) tableBytes h)
 
 -- what a sound reader answers fits the numbers that C gets
@@ -107,14 +107,14 @@ took-fits r bs reader said h g =
     (omega arith, few-said said (readOf r bs .said) (g .verdict) (read-short r bs h))
 
 -- an answer of code, in numbers
-pub took-line : (a : Answer) (reader : Reader) (used : ℕ) (said : Said) → Gives reader said a → used ≡ a .used
-    → record { reader = lineReader reader; used = used; said = handedIn said (reader .bytes) } ≡ lineTook a
-took-line a reader used said g u = rw (g .handed, u, g .next)
+pub took-c : (a : Given) (reader : Reader) (used : ℕ) (said : Said) → Gives reader said a → used ≡ a .used
+    → record { reader = cReader reader; used = used; said = handedIn said (reader .bytes) } ≡ cTook a
+took-c a reader used said g u = rw (g .handed, u, g .next)
 
 -- ---- what `nx584_hear` answers
 
-pub hear-refused : (c : LineReader) (t bs : List ℕ) (number : ℕ) → lineHeard c t bs ≡ lineRefused c number → replyOf number 0 ≡ 0 → (number ≡ 0 → ⊥)
-    → LineHears c t bs (withReply (lineReading (lineRefused c number)) 0) t
+pub hear-refused : (c : CReader) (t bs : List ℕ) (number : ℕ) → cHeard c t bs ≡ cRefused c number → replyOf number 0 ≡ 0 → (number ≡ 0 → ⊥)
+    → CHears c t bs (withReply (cReading (cRefused c number)) 0) t
 unfolding tableAfter
 hear-refused c t bs number e r z =
     record {
@@ -140,12 +140,12 @@ length-said Silent = refl
 length-said (Gave v) = refl
 
 -- an answer with or without a verdict, and its message
-pub said-line : (reader : LineReader) (used : ℕ) (said : Said) (bytes message : List ℕ) → lengthSaid said + 1 ≤ length bytes
+pub said-c : (reader : CReader) (used : ℕ) (said : Said) (bytes message : List ℕ) → lengthSaid said + 1 ≤ length bytes
     → message ≡ padded (take (numbersSaid said .length + 1 - 1) (drop 1 bytes))
     → record { reader = reader; used = used; verdict = numbersSaid said .number; «type_byte» = numbersSaid said .«type_byte»; length = numbersSaid said .length; message = message }
-    ≡ lineReading (record { reader = reader; used = used; said = handedIn said bytes })
-said-line reader used Silent bytes message h e = rw e
-said-line reader used (Gave v) bytes message h e = gave-line reader used v bytes message h e
+    ≡ cReading (record { reader = reader; used = used; said = handedIn said bytes })
+said-c reader used Silent bytes message h e = rw e
+said-c reader used (Gave v) bytes message h e = gave-line reader used v bytes message h e
 
 pub reply-said : (hs : List Handed) → replyOf (numberSaid hs) (typeSaid hs) ≡ replyTo hs
 unfolding replyOf
@@ -164,20 +164,20 @@ short-said [] k = omega arith
 short-said (h ∷ hs) k = k
 
 -- a read by numbers says at most one verdict, and its message fits
-pub stored-line : (c : LineReader) (t bs : List ℕ)
-    → cond (eqb (numberSaid (lineRead c bs .said)) 0) (appliedTo t (take (length (messageSaid (lineRead c bs .said))) (padded (messageSaid (lineRead c bs .said))))) t
-    ≡ tableAfter t (lineRead c bs .said)
-stored-line c t bs = go (soundLine c) refl
+pub stored-c : (c : CReader) (t bs : List ℕ)
+    → cond (eqb (numberSaid (cRead c bs .said)) 0) (appliedTo t (take (length (messageSaid (cRead c bs .said))) (padded (messageSaid (cRead c bs .said))))) t
+    ≡ tableAfter t (cRead c bs .said)
+stored-c c t bs = go (soundC c) refl
   where
-    go : (b : Bool) → soundLine c ≡ b
-        → cond (eqb (numberSaid (lineRead c bs .said)) 0) (appliedTo t (take (length (messageSaid (lineRead c bs .said))) (padded (messageSaid (lineRead c bs .said))))) t
-        ≡ tableAfter t (lineRead c bs .said)
+    go : (b : Bool) → soundC c ≡ b
+        → cond (eqb (numberSaid (cRead c bs .said)) 0) (appliedTo t (take (length (messageSaid (cRead c bs .said))) (padded (messageSaid (cRead c bs .said))))) t
+        ≡ tableAfter t (cRead c bs .said)
     go true h = rw (read-took c bs h) (stored-said t (readOf (readerFor c) bs .said) (one-verdict (readerFor c) bs))
     go false h = rw (read-refused c bs h) (stored-said t (handing 12 [] ∷ []) refl)
 
-pub line-short : (c : LineReader) (bs : List ℕ) → length (messageSaid (lineRead c bs .said)) ≤ 18
-line-short c bs = go (soundLine c) refl
+pub c-short : (c : CReader) (bs : List ℕ) → length (messageSaid (cRead c bs .said)) ≤ 18
+c-short c bs = go (soundC c) refl
   where
-    go : (b : Bool) → soundLine c ≡ b → length (messageSaid (lineRead c bs .said)) ≤ 18
-    go true h = rw (read-took c bs h) (short-said (readOf (readerFor c) bs .said) (read-short (readerFor c) bs (line-sound c h)))
+    go : (b : Bool) → soundC c ≡ b → length (messageSaid (cRead c bs .said)) ≤ 18
+    go true h = rw (read-took c bs h) (short-said (readOf (readerFor c) bs .said) (read-short (readerFor c) bs (c-sound c h)))
     go false h = rw (read-refused c bs h) (omega arith)

@@ -1,6 +1,6 @@
 use borrow.Author.Needs.{needs}
-use Rattle.nx584.proofs.line_reader.Statement.{statement}
-use Rattle.nx584.proofs.line_reader.Tie as tie
+use Rattle.nx584.proofs.c_reader.Statement.{statement}
+use Rattle.nx584.proofs.c_reader.Tie as tie
 
 cast-held : tie.Need-cast-held
 cast-held c = search needs
@@ -35,8 +35,8 @@ returns-3 c = rw (c .enum-told .given .1)
 returns-4 : tie.Need-returns-4
 returns-4 c = rw (c .before .mode3 .given .1)
 
-pub line-reader-spec : {M : Type 1} → statement M
-line-reader-spec =
+pub c-reader-spec : {M : Type 1} → statement M
+c-reader-spec =
     tie.close
     (tie.spec
     cast-held

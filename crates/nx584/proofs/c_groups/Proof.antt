@@ -4,21 +4,21 @@ use mathlib.Core.Path.{_≡_, refl, sym, _∙_}
 use mathlib.Core.List.{map}
 use lib.ListN.{length, take, length-set, length-map}
 use lib.Seq.{take-all}
-use Rattle.nx584.proofs.Lines.{map-turn}
+use Rattle.nx584.proofs.InC.{map-turn}
 use borrow.Author.Needs.{needs}
 use Rattle.standard.specs.declared.Group.{Group}
 use Rattle.standard.specs.Overview.{groupValues}
 use Rattle.standard.proofs.Words.{map-map}
-use Rattle.nx584.specs.declared.LineGroup.{LineGroup}
-use Rattle.nx584.specs.Boundary.{lineGroup}
-use Rattle.nx584.proofs.line_groups.Statement.{statement}
-use Rattle.nx584.proofs.line_groups.Tie as tie
+use Rattle.nx584.specs.declared.CGroup.{CGroup}
+use Rattle.nx584.specs.Boundary.{cGroup}
+use Rattle.nx584.proofs.c_groups.Statement.{statement}
+use Rattle.nx584.proofs.c_groups.Tie as tie
 
-abbrev lineOf : Group → LineGroup
-lineOf g = lineGroup (groupValues g)
+abbrev cOf : Group → CGroup
+cOf g = cGroup (groupValues g)
 
 abbrev Inv-loop : tie.InvT-loop
-Inv-loop groups lines₀ i₀ lines i = (i ≤ 16) × (length lines ≡ 16) × (take i lines ≡ take i (map lineOf groups))
+Inv-loop groups lines₀ i₀ lines i = (i ≤ 16) × (length lines ≡ 16) × (take i lines ≡ take i (map cOf groups))
 
 abbrev μ-loop : tie.MeasureT-loop
 μ-loop groups lines₀ i₀ lines i = 16 - i
@@ -26,8 +26,8 @@ abbrev μ-loop : tie.MeasureT-loop
 array-copy-out-first : tie.Need-array-copy-out-first Inv-loop μ-loop
 array-copy-out-first c = search needs
 
-line-group-requires : tie.Need-line-group-requires Inv-loop μ-loop
-line-group-requires c κs = search needs
+c-group-requires : tie.Need-c-group-requires Inv-loop μ-loop
+c-group-requires c κs = search needs
 
 loop-holds : tie.Need-loop-holds Inv-loop μ-loop
 loop-holds c = (omega arith, refl, refl)
@@ -38,8 +38,8 @@ mul-group c = search needs
 array-copy-out-group : tie.Need-array-copy-out-group Inv-loop μ-loop
 array-copy-out-group c = search needs
 
-line-group-requires-2 : tie.Need-line-group-requires-2 Inv-loop μ-loop
-line-group-requires-2 c κs = search needs
+c-group-requires-2 : tie.Need-c-group-requires-2 Inv-loop μ-loop
+c-group-requires-2 c κs = search needs
 
 mul-lines : tie.Need-mul-lines Inv-loop μ-loop
 mul-lines c = search needs
@@ -58,7 +58,7 @@ loop-again c =
     let l = c .before .before .before .loop in
     let gs = c .before .before .before .before .before .before .args .t1 in
     let many : length gs ≡ 16 = search needs in
-    (omega arith, simp length-set (l .inv .1), map-turn lineOf gs (l .lines) (l .i) _ (c .line-group2 .result) (omega arith) (omega arith) (l .inv .2) (c .line-group2 .ensures))
+    (omega arith, simp length-set (l .inv .1), map-turn cOf gs (l .lines) (l .i) _ (c .c-group2 .result) (omega arith) (omega arith) (l .inv .2) (c .c-group2 .ensures))
 
 returns : tie.Need-returns Inv-loop μ-loop
 returns c =
@@ -66,20 +66,20 @@ returns c =
     let gs = c .before .before .before .before .args .t1 in
     let many : length gs ≡ 16 = search needs in
     let all : l .i ≡ 16 = omega arith in
-    sym (take-all (l .i) (l .lines) (omega arith)) ∙ l .inv .2 ∙ take-all (l .i) (map lineOf gs) (simp length-map (omega arith)) ∙ sym (map-map groupValues lineGroup gs)
+    sym (take-all (l .i) (l .lines) (omega arith)) ∙ l .inv .2 ∙ take-all (l .i) (map cOf gs) (simp length-map (omega arith)) ∙ sym (map-map groupValues cGroup gs)
 
-pub line-groups-spec : {M : Type 1} → statement M
-line-groups-spec =
+pub c-groups-spec : {M : Type 1} → statement M
+c-groups-spec =
     tie.close
     (tie.spec
     Inv-loop
     μ-loop
     array-copy-out-first
-    line-group-requires
+    c-group-requires
     loop-holds
     mul-group
     array-copy-out-group
-    line-group-requires-2
+    c-group-requires-2
     mul-lines
     array-set-from-lines
     add-i

@@ -1,10 +1,10 @@
 use Rattle.reader.specs.Read.{soundReader}
 use mathlib.Core.Logic.{⊎-elim}
 use mathlib.Core.Path.{sym, ap, _∙_}
-use Rattle.nx584.proofs.Lines.{no-mode, no-digit, a-digit, another-mode}
+use Rattle.nx584.proofs.InC.{no-mode, no-digit, a-digit, another-mode}
 use borrow.Author.Needs.{needs}
-use Rattle.nx584.proofs.sound_line.Statement.{statement}
-use Rattle.nx584.proofs.sound_line.Tie as tie
+use Rattle.nx584.proofs.sound_c.Statement.{statement}
+use Rattle.nx584.proofs.sound_c.Tie as tie
 
 returns : tie.Need-returns
 returns c = sym (no-mode (c .before .before .args .c) (c .if1 .taken))
@@ -24,6 +24,6 @@ returns-3 c =
     c .sound .ensures ∙ ap soundReader (c .before .reader-for .ensures)
     ∙ sym (⊎-elim (λ w. a-digit a (w .0 .taken) (w .2 .left)) (λ w. another-mode a (c .before .before .before .before .if1 .left) (w .left)) (c .before .before .if2 .came))
 
-pub sound-line-spec : {M : Type 1} → statement M
-sound-line-spec =
+pub sound-c-spec : {M : Type 1} → statement M
+sound-c-spec =
     tie.close (tie.spec returns returns-2 reader-for-requires sound-requires returns-3)
