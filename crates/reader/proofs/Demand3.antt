@@ -15,11 +15,14 @@ use Rattle.standard.proofs.Framings.{Bytes}
 use Rattle.standard.proofs.Decided.{handed-amid-part}
 use Rattle.standard.proofs.Stream.{handed-amid}
 use Rattle.reader.specs.declared.Reader.{Reader}
+use Rattle.reader.specs.Step.{framingOf}
 use Rattle.reader.specs.Read.{Read, scanOf, stateOf, soundReader, freshReader, readOf}
-use Rattle.reader.specs.Calls.{joined, handedBefore, callsOf, drive, Calls, finished, call}
+use Rattle.reader.specs.Calls.{joined, handedBefore, callsOf, drive, Calls, finished, call, streamTo}
+use Rattle.reader.proofs.Soundness.{reader-fits}
 use Rattle.reader.proofs.Arrays.{read-sound, state-read, sound-read}
 use Rattle.reader.proofs.Parts.{run, run-append, run-parts}
 use Rattle.reader.proofs.Scans.{Scanned, scanned}
+use Rattle.reader.proofs.Leads.{lead-on}
 
 -- ---- one call
 
@@ -55,6 +58,11 @@ calls-run finished h = refl
 calls-run (call {r} {bs} {reads} {again} {hs} e c) h =
     ap (λ l. readOf r bs .said ++ l) (calls-run c (sound-read r bs h) ∙ ap (run (stateOf (readOf r bs .reader))) e)
     ∙ sym (one-call r bs h (joined reads))
+
+-- from every sound reader: what the stream that leads to it and the reads hand out together
+pub sound-caller : (r : Reader) {reads : List (List ℕ)} {hs : List Handed} → soundReader r ≡ true → Bytes (stateOf r .held) → Calls r reads hs
+    → hs ≡ handedOf (framingOf (r .mode)) (streamTo r ++ joined reads)
+sound-caller r {reads} h b c = calls-run c h ∙ sym (lead-on (r .mode) (stateOf r .held) b (reader-fits r h) (joined reads))
 
 -- cut again as it likes
 pub any-caller : (f : Framing) {reads : List (List ℕ)} {hs : List Handed} → Calls (freshReader f) reads hs → hs ≡ handedOf f (joined reads)

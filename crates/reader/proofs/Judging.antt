@@ -2,7 +2,7 @@
 -- bears on that (`Does`), which every other law of the reader goes by. Assumes nothing.
 use Prim.Native.Nat.{ℕ, _+_, _-_, _*_, _≤_}
 use mathlib.Core.Path.{_≡_}
-use mathlib.Core.Bool.{Bool, true, false, cond}
+use mathlib.Core.Bool.{true, false, cond}
 use mathlib.Core.Option.{Option, none, some}
 use mathlib.Core.List.{List, [], _∷_, _++_}
 use lib.ListN.{length, drop}
@@ -15,6 +15,7 @@ use Rattle.standard.specs.Stream.{partHands}
 use Rattle.reader.specs.declared.Mode.{Mode}
 use Rattle.reader.specs.declared.Mode.the-variants.{Skipping, Open, Escape, Digit}
 use Rattle.reader.specs.Step.{Step, framingOf, goes, ends}
+pub use Rattle.reader.specs.Step.{isOpen}
 use Rattle.reader.proofs.Soundness.{Fits}
 use Rattle.reader.proofs.Frames.{Stands}
 
@@ -46,13 +47,6 @@ leftOf (Open Binary) held q = given held (unstuff false q)
 leftOf (Open Ascii) held q = spelt none held q
 leftOf Escape held q = given held (unstuff true q)
 leftOf (Digit d) held q = spelt (some d) held q
-
--- in a frame
-abbrev pub isOpen : Mode → Bool
-isOpen (Skipping f) = false
-isOpen (Open f) = true
-isOpen Escape = true
-isOpen (Digit d) = true
 
 -- what the open frame hands out, with these parts after its own; nothing between frames
 abbrev pub openHands : Mode → List ℕ → List ℕ → List (List ℕ) → List Handed

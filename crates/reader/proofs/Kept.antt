@@ -14,11 +14,11 @@ use Rattle.standard.specs.Framing.{startOf}
 use Rattle.standard.specs.Judge.{Handed, handing}
 use Rattle.reader.specs.declared.Mode.{Mode}
 use Rattle.reader.specs.declared.Mode.the-variants.{Skipping}
-use Rattle.reader.specs.Step.{State, Step, framingOf, soundOf, cutShort, opens, goesOn, stepOf}
+use Rattle.reader.specs.Step.{State, Step, framingOf, isOpen, cutShort, opens, goesOn, stepOf}
 use Rattle.reader.specs.Read.{Read, readOn, scanOf}
-use Rattle.reader.proofs.Soundness.{Fits, state-fits, fits-state, few-held}
+use Rattle.reader.proofs.Soundness.{Fits, few-held}
 use Rattle.reader.proofs.Frames.{by-test, Stands}
-use Rattle.reader.proofs.Judging.{isOpen, Does, skips, on, over}
+use Rattle.reader.proofs.Judging.{Does, skips, on, over}
 use Rattle.reader.proofs.OneByte.{does, cut-is}
 
 -- at most one verdict, whose message stands in the bytes kept
@@ -89,14 +89,9 @@ keeps-step s b =
     ))
     (λ e. does-keep (does (s .mode) (s .held) b))
 
--- ---- soundness
-
+-- what soundness says stays at every byte
 pub fits-step : (s : State) (b : ℕ) → Fits (s .mode) (s .held) → Fits (stepOf s b .next .mode) (stepOf s b .next .held)
 fits-step s b = keeps-step s b .0 .fits
-
--- a sound state stays sound at every byte
-pub sound-step : (s : State) (b : ℕ) → soundOf s ≡ true → soundOf (stepOf s b .next) ≡ true
-sound-step s b h = fits-state (stepOf s b .next) (fits-step s b (state-fits s h))
 
 -- ---- a read
 

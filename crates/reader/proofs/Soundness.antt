@@ -3,10 +3,9 @@ use Prim.Native.Nat.{ℕ, zero, suc, _+_, _≤_, _<_}
 use native.Mathlib.Omega.{arith}
 use mathlib.Core.Path.{_≡_}
 use mathlib.Core.Bool.{true, _&&_, _||_}
-use mathlib.Core.List.{List, [], _∷_, _++_, append-nil}
+use mathlib.Core.List.{List, [], _∷_, _++_}
 use lib.Dec.{eqb, leb, eqb·suc-zero}
 use lib.ListN.{length, getD, take, length-take}
-use lib.Seq.{take-length}
 use borrow.Author.Tests.{leb-true, le-leb}
 use Rattle.standard.specs.declared.Framing.the-variants.{Binary, Ascii}
 use Rattle.standard.specs.Messages.{longest, lengthOk}
@@ -14,7 +13,7 @@ use Rattle.standard.proofs.Messages.{both-true, length-ok}
 use Rattle.reader.specs.declared.Mode.{Mode}
 use Rattle.reader.specs.declared.Mode.the-variants.{Skipping, Open, Escape, Digit}
 use Rattle.reader.specs.declared.Reader.{Reader}
-use Rattle.reader.specs.Step.{State, beyondLength, pendingOk, soundWith, soundOf}
+use Rattle.reader.specs.Step.{beyondLength, pendingOk, soundWith}
 use Rattle.reader.specs.Read.{soundReader}
 
 -- none held, or first a length L, and at most L + beyond in all
@@ -57,17 +56,11 @@ front-fits m (suc n) (L ∷ rest) h =
 pub reader-fits : (r : Reader) → soundReader r ≡ true → Fits (r .mode) (take (r .held) (r .bytes))
 reader-fits r h = front-fits (r .mode) (r .held) (r .bytes) h
 
-pub state-fits : (s : State) → soundOf s ≡ true → Fits (s .mode) (s .held)
-state-fits s h = rw (take-length (s .held)) at (front-fits (s .mode) (length (s .held)) (s .held) h)
-
 -- bytes held that a list begins with
 pub fits-sound : (m : Mode) (held more : List ℕ) → Fits m held → soundWith m (length held) (getD (held ++ more) 0 0) ≡ true
 fits-sound m [] more k = k .1
 fits-sound m (L ∷ rest) more k =
     rw (eqb·suc-zero (length rest), k .0 .0, le-leb (suc (length rest)) (L + beyondLength m) (k .0 .1), k .1)
-
-pub fits-state : (s : State) → Fits (s .mode) (s .held) → soundOf s ≡ true
-fits-state s k = rw append-nil at (fits-sound (s .mode) (s .held) [] k)
 
 bounded : (m : Mode) (n L : ℕ) → (lengthOk L ≡ true) × (n < L + beyondLength m) → suc n ≤ longest + 3
 bounded m n L k = omega (arith, k .1, length-ok L (k .0) .few, beyond-le m)

@@ -5,10 +5,14 @@ use mathlib.Core.Path.{_≡_}
 use mathlib.Core.List.{List, [], _∷_, _++_}
 use lib.ListN.{length, take, drop}
 use Rattle.standard.specs.declared.Framing.{Framing}
+use Rattle.standard.specs.declared.Framing.the-variants.{Binary, Ascii}
+use Rattle.standard.specs.Framing.{startOf, digit, coding}
 use Rattle.standard.specs.Judge.{Handed}
 use Rattle.standard.specs.Stream.{handedOf}
+use Rattle.reader.specs.declared.Mode.{Mode}
+use Rattle.reader.specs.declared.Mode.the-variants.{Skipping, Open, Escape, Digit}
 use Rattle.reader.specs.declared.Reader.{Reader}
-use Rattle.reader.specs.Read.{freshReader, readOf}
+use Rattle.reader.specs.Read.{freshReader, stateOf, readOf}
 
 -- the bytes of some reads, one after another
 abbrev pub joined : List (List ℕ) → List ℕ
@@ -41,6 +45,17 @@ pub data Calls : Reader → List (List ℕ) → List Handed → Type 0 where
 pub data Reached (f : Framing) : List ℕ → Reader → Type 0 where
   fresh : Reached f [] (freshReader f)
   read : {stream : List ℕ} {r : Reader} (bs : List ℕ) → Reached f stream r → Reached f (stream ++ take (readOf r bs .used) bs) (readOf r bs .reader)
+
+-- a stream that leads to a mode and the bytes held: none between frames; in a frame its start, those bytes as they are sent, and what is pending
+abbrev pub leadTo : Mode → List ℕ → List ℕ
+leadTo (Skipping f) held = []
+leadTo (Open f) held = startOf f ∷ coding f held
+leadTo Escape held = startOf Binary ∷ coding Binary held ++ (0x7D ∷ [])
+leadTo (Digit d) held = startOf Ascii ∷ coding Ascii held ++ (digit d ∷ [])
+
+-- a stream that leads to a sound reader
+abbrev pub streamTo : Reader → List ℕ
+streamTo r = leadTo (r .mode) (stateOf r .held)
 
 -- the used-byte rule, from the bytes: after a stream, a read uses the fewest bytes that give the stream one verdict more, and says that verdict;
 -- or it uses all, and the stream has no verdict more

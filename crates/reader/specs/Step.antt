@@ -1,12 +1,12 @@
 -- Document 01: "A reader is a value: a byte goes in, the next reader and at most one verdict come out." Here over the bytes held and what is
 -- pending; that the verdicts are those of the stream's parts is a theorem. Assumes nothing.
 use Prim.Native.Nat.{ℕ, suc, _+_, _*_}
-use mathlib.Core.Bool.{Bool, true, cond, not, _&&_, _||_}
+use mathlib.Core.Bool.{Bool, true, false, cond, not, _&&_, _||_}
 use mathlib.Core.Option.{Option, none, some}
 use mathlib.Core.List.{List, [], _∷_, _++_}
 use lib.Bits.{bitXor}
 use lib.Dec.{eqb, leb, ltb}
-use lib.ListN.{length, getD}
+use lib.ListN.{length}
 use Rattle.standard.specs.declared.Framing.{Framing}
 use Rattle.standard.specs.declared.Framing.the-variants.{Binary, Ascii}
 use Rattle.standard.specs.Messages.{lengthOk}
@@ -25,6 +25,13 @@ framingOf (Skipping f) = f
 framingOf (Open f) = f
 framingOf Escape = Binary
 framingOf (Digit d) = Ascii
+
+-- in a frame
+abbrev pub isOpen : Mode → Bool
+isOpen (Skipping f) = false
+isOpen (Open f) = true
+isOpen Escape = true
+isOpen (Digit d) = true
 
 -- ---- soundness
 
@@ -47,9 +54,6 @@ pendingOk (Digit d) = leb d 15
 -- "sound when it holds no recovered byte, or when the first is a length L of 1 to 18 and it holds at most .. recovered bytes"; n bytes are held
 abbrev pub soundWith : Mode → ℕ → ℕ → Bool
 soundWith mode n L = (eqb n 0 || lengthOk L && leb n (L + beyondLength mode)) && pendingOk mode
-
-abbrev pub soundOf : State → Bool
-soundOf s = soundWith (s .mode) (length (s .held)) (getD (s .held) 0 0)
 
 -- ---- one byte
 
