@@ -1,16 +1,18 @@
 -- A read says at most one verdict, and its message stands in the reader's array: so that what is handed out follows from the verdict and the reader,
 -- whatever the reader was. Assumes nothing.
-use Prim.Native.Nat.{ℕ, _≤_}
+use Prim.Native.Nat.{ℕ, zero, suc, _+_, _≤_}
 use mathlib.Core.Path.{_≡_, refl, ap, _∙_}
 use mathlib.Core.Bool.{Bool, true, false}
 use mathlib.Core.List.{List, [], _∷_, map, cons≢nil, nil≢cons, head-eq-of-cons-eq}
-use lib.ListN.{length, drop}
+use lib.ListN.{length, getD, drop, replicate}
+use Rattle.standard.specs.declared.Framing.{Framing}
 use Rattle.standard.specs.declared.Said.{Said}
 use Rattle.standard.specs.declared.Said.the-variants.{Silent, Gave}
 use Rattle.standard.specs.Words.{laid}
+use Rattle.standard.specs.Messages.{longest}
 use Rattle.standard.specs.Judge.{Handed, verdictFor, verdictsIn, handedIn}
 use Rattle.reader.specs.declared.Reader.{Reader}
-use Rattle.reader.specs.Read.{Given, scanOf, stateOf, soundReader, readOf}
+use Rattle.reader.specs.Read.{Given, scanOf, stateOf, soundReader, freshReader, readOf}
 use Rattle.reader.proofs.Kept.{Hands, keeps-scan}
 use Rattle.reader.proofs.Arrays.{laid-front, read-sound, read-unsound}
 
@@ -63,3 +65,19 @@ pub sound-verdict : (r : Reader) (bs : List ℕ) (h : Handed) (hs : List Handed)
 sound-verdict r bs h hs k e =
     let said : scanOf (stateOf r) bs .said ≡ h ∷ hs = rw (read-sound r bs k) at e in
     rw said at (keeps-scan (stateOf r) bs .sheet)
+
+-- an unsound one gives 12, which carries nothing, uses no byte and comes back
+pub unsound-verdict : (r : Reader) (bs : List ℕ) → soundReader r ≡ false
+    → readOf r bs ≡ record { reader = r; used = 0; said = record { verdict = 12; typeByte = 0; message = [] } ∷ [] }
+unsound-verdict r bs h = read-unsound r bs h
+
+-- ---- a fresh reader
+
+zeros : (n i : ℕ) → _≡_ {A = ℕ} (getD (replicate n 0) i 0) 0
+zeros zero i = refl
+zeros (suc n) zero = refl
+zeros (suc n) (suc i) = zeros n i
+
+-- every byte of its array is 0
+pub fresh-zero : (f : Framing) (i : ℕ) → getD (freshReader f .bytes) i 0 ≡ 0
+fresh-zero f i = zeros (longest + 3) i

@@ -1,12 +1,13 @@
 -- Soundness as facts on the bytes held: a sound reader holds at most `longest + 3`, and they make a sound state. Assumes nothing.
 use Prim.Native.Nat.{ℕ, zero, suc, _+_, _≤_, _<_}
 use native.Mathlib.Omega.{arith}
-use mathlib.Core.Path.{_≡_}
-use mathlib.Core.Bool.{true, _&&_, _||_}
+use mathlib.Core.Path.{_≡_, refl}
+use mathlib.Core.Bool.{true, false, _&&_, _||_}
 use mathlib.Core.List.{List, [], _∷_, _++_}
 use lib.Dec.{eqb, leb, eqb·suc-zero}
 use lib.ListN.{length, getD, take, length-take}
 use borrow.Author.Tests.{leb-true, le-leb}
+use Rattle.standard.specs.declared.Framing.{Framing}
 use Rattle.standard.specs.declared.Framing.the-variants.{Binary, Ascii}
 use Rattle.standard.specs.Messages.{longest, lengthOk}
 use Rattle.standard.proofs.Messages.{both-true, length-ok}
@@ -76,3 +77,14 @@ number-held m (suc n) L h = bounded m n L (sound-sized m n L h)
 -- a sound reader's bytes fit into its array
 pub sound-held : (r : Reader) → soundReader r ≡ true → r .held ≤ longest + 3
 sound-held r h = number-held (r .mode) (r .held) (getD (r .bytes) 0 0) h
+
+-- ---- what no stream shows
+
+-- between frames a reader that holds bytes, as none met does, is sound where one in a frame is
+pub sound-between : (f : Framing) (n L : ℕ) → soundWith (Skipping f) n L ≡ soundWith (Open f) n L
+sound-between Binary n L = refl
+sound-between Ascii n L = refl
+
+-- and an array without bytes holds none
+pub sound-empty : (m : Mode) (n : ℕ) → soundReader (record { mode = m; held = suc n; bytes = [] }) ≡ false
+sound-empty m n = rw (eqb·suc-zero n)

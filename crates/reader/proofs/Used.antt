@@ -17,7 +17,7 @@ use Rattle.reader.specs.declared.Mode.the-variants.{Skipping}
 use Rattle.reader.specs.declared.Reader.{Reader}
 use Rattle.reader.specs.Step.{State, framingOf, isOpen}
 use Rattle.reader.specs.Read.{scanOf, stateOf, soundReader, freshReader, Given, readOf}
-use Rattle.reader.specs.Calls.{Reached, fresh, read, streamTo, Uses}
+use Rattle.reader.specs.Calls.{Reached, fresh, read, streamTo, Meets, Uses}
 use Rattle.reader.proofs.Soundness.{reader-fits}
 use Rattle.reader.proofs.Arrays.{read-sound, state-read, sound-read, Whole, whole-fresh, whole-read}
 use Rattle.reader.proofs.Handing.{sound-verdict}
@@ -101,12 +101,6 @@ sound-used r bs h b =
 empty-front : (a b : List Handed) → a ++ b ≡ [] → a ≡ []
 empty-front [] b e = refl
 empty-front (h ∷ a) b e = absurd (cons≢nil e)
-
--- a reader met by a stream, with the bytes held of another
-pub record Meets (f : Framing) (stream : List ℕ) (s : State) : Type 0 where
-  pub reader : Reader
-  pub reached : Reached f stream reader
-  pub same : stateOf reader ≡ s
 
 module _ (f : Framing) (bs : List ℕ) (s : State) (w : Leads (record { mode = Skipping f; held = [] }) bs s) where
   abbrev from : State

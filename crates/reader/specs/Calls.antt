@@ -12,6 +12,7 @@ use Rattle.standard.specs.Stream.{handedOf}
 use Rattle.reader.specs.declared.Mode.{Mode}
 use Rattle.reader.specs.declared.Mode.the-variants.{Skipping, Open, Escape, Digit}
 use Rattle.reader.specs.declared.Reader.{Reader}
+use Rattle.reader.specs.Step.{State}
 use Rattle.reader.specs.Read.{freshReader, stateOf, readOf}
 
 -- the bytes of some reads, one after another
@@ -56,6 +57,12 @@ leadTo (Digit d) held = startOf Ascii ∷ coding Ascii held ++ (digit d ∷ [])
 -- a stream that leads to a sound reader
 abbrev pub streamTo : Reader → List ℕ
 streamTo r = leadTo (r .mode) (stateOf r .held)
+
+-- a reader that a stream leads to, in this mode and with these bytes held
+pub record Meets (f : Framing) (stream : List ℕ) (s : State) : Type 0 where
+  pub reader : Reader
+  pub reached : Reached f stream reader
+  pub same : stateOf reader ≡ s
 
 -- the used-byte rule, from the bytes: after a stream, a read uses the fewest bytes that give the stream one verdict more, and says that verdict;
 -- or it uses all, and the stream has no verdict more
