@@ -1,5 +1,5 @@
--- A read says at most one verdict, and its message stands in the reader's array: so that what is handed out follows from the verdict and the reader,
--- whatever the reader was. Assumes nothing.
+-- A read says at most one verdict, and its message stands in the reader's array: so that what is handed out follows
+-- from the verdict and the reader, whatever the reader was. Assumes nothing.
 use Prim.Native.Nat.{ℕ, zero, suc, _+_, _≤_}
 use mathlib.Core.Path.{_≡_, refl, ap, _∙_}
 use mathlib.Core.Bool.{Bool, true, false}
@@ -34,11 +34,14 @@ record Laid (r : Reader) (a : Given) : Type 0 where
   bytes : a .reader .bytes ≡ laid (r .bytes) 0 kept
 
 laid-by : (r : Reader) (bs : List ℕ) (t : Bool) → soundReader r ≡ t → Laid r (readOf r bs)
-laid-by r bs true h = rw (read-sound r bs h) (record { kept = scanOf (stateOf r) bs .kept; hands = keeps-scan (stateOf r) bs .hands; bytes = refl })
+laid-by r bs true h =
+    rw (read-sound r bs h)
+    (record { kept = scanOf (stateOf r) bs .kept; hands = keeps-scan (stateOf r) bs .hands; bytes = refl })
 laid-by r bs false h = rw (read-unsound r bs h) (record { kept = []; hands = λ more. refl; bytes = refl })
 
 -- the verdict and the reader tell what is handed out
-pub handed-from-verdict : (r : Reader) (bs : List ℕ) (reader : Reader) (said : Said) → verdictsIn said ≡ map verdictFor (readOf r bs .said)
+pub handed-from-verdict : (r : Reader) (bs : List ℕ) (reader : Reader) (said : Said)
+    → verdictsIn said ≡ map verdictFor (readOf r bs .said)
     → reader ≡ readOf r bs .reader → handedIn said (reader .bytes) ≡ readOf r bs .said
 handed-from-verdict r bs reader said e n =
     let w = laid-by r bs (soundReader r) refl in
@@ -57,11 +60,13 @@ at-most-one (h ∷ []) kept k = refl
 at-most-one (h ∷ g ∷ hs) kept k = absurd k
 
 -- one case of `Said` has the verdicts of a read
-pub one-verdict : (r : Reader) (bs : List ℕ) → verdictsIn (saidFor (readOf r bs .said)) ≡ map verdictFor (readOf r bs .said)
+pub one-verdict : (r : Reader) (bs : List ℕ)
+    → verdictsIn (saidFor (readOf r bs .said)) ≡ map verdictFor (readOf r bs .said)
 one-verdict r bs = let w = laid-by r bs (soundReader r) refl in at-most-one (readOf r bs .said) (w .kept) (w .hands)
 
 -- a sound reader gives 0 to 8, and never 12
-pub sound-verdict : (r : Reader) (bs : List ℕ) (h : Handed) (hs : List Handed) → soundReader r ≡ true → readOf r bs .said ≡ h ∷ hs → h .verdict ≤ 8
+pub sound-verdict : (r : Reader) (bs : List ℕ) (h : Handed) (hs : List Handed) → soundReader r ≡ true
+    → readOf r bs .said ≡ h ∷ hs → h .verdict ≤ 8
 sound-verdict r bs h hs k e =
     let said : scanOf (stateOf r) bs .said ≡ h ∷ hs = rw (read-sound r bs k) at e in
     rw said at (keeps-scan (stateOf r) bs .sheet)

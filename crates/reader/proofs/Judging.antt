@@ -1,5 +1,5 @@
--- A part judged from inside it: what its open frame hands out, by the bytes held, what is pending and what is still to come. And what one byte
--- bears on that (`Does`), which every other law of the reader goes by. Assumes nothing.
+-- A part judged from inside it: what its open frame hands out, by the bytes held, what is pending and what is still to
+-- come. And what one byte bears on that (`Does`), which every other law of the reader goes by. Assumes nothing.
 use Prim.Native.Nat.{ℕ, _+_, _-_, _*_, _≤_}
 use mathlib.Core.Path.{_≡_}
 use mathlib.Core.Bool.{true, false, cond}
@@ -77,4 +77,5 @@ pub record Over (m : Mode) (held : List ℕ) (b : ℕ) (f : Framing) (h : Handed
 pub data Does : Mode → List ℕ → ℕ → Step → Type 0 where
   skips : {f : Framing} {held : List ℕ} {b : ℕ} → Does (Skipping f) held b (goes (Skipping f) held)
   on : {m m′ : Mode} {held held′ : List ℕ} {b : ℕ} → On m held b m′ held′ → Does m held b (goes m′ held′)
-  over : {m : Mode} {held kept : List ℕ} {b : ℕ} {f : Framing} {h : Handed} → Over m held b f h kept → Does m held b (ends f h kept)
+  over : {m : Mode} {held kept : List ℕ} {b : ℕ} {f : Framing} {h : Handed} → Over m held b f h kept
+      → Does m held b (ends f h kept)

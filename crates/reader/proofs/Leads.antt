@@ -1,5 +1,5 @@
--- Every sound reader is what a stream leads to (`leadTo`): its start, the bytes held as they are sent, and what is pending. So what is true of the
--- readers met in a stream is true of every sound one. Assumes nothing.
+-- Every sound reader is what a stream leads to (`leadTo`): its start, the bytes held as they are sent, and what is
+-- pending. So what is true of the readers met in a stream is true of every sound one. Assumes nothing.
 use Prim.Native.Nat.{ℕ, zero, suc, _+_, _*_, _/_, _%_, _≤_, _<_}
 use native.Mathlib.Nat.{div-add-mod'}
 use native.Mathlib.Omega.{arith}
@@ -50,7 +50,8 @@ leads-by s b m held e = record { silent = rw e; there = ap (λ (t : Step). t .ne
 -- ---- a byte more
 
 -- a recovered byte more is held, where that is still sound
-takes-on : (f : Framing) (held : List ℕ) (b : ℕ) → Fits (Open f) (held ++ (b ∷ [])) → takes f held b ≡ goes (Open f) (held ++ (b ∷ []))
+takes-on : (f : Framing) (held : List ℕ) (b : ℕ) → Fits (Open f) (held ++ (b ∷ []))
+    → takes f held b ≡ goes (Open f) (held ++ (b ∷ []))
 takes-on f [] b k = rw (k .0 .0)
 takes-on Binary (L ∷ rest) b k = rw (lt-ltb (suc (length rest)) (L + 2) (omega (arith, length-snoc rest b, k .0 .1)))
 takes-on Ascii (L ∷ rest) b k = refl
@@ -78,7 +79,8 @@ digit-no-start d h =
     omega arith)
 
 -- the first digit of a pair, where none is pending and the stop is not due
-first-digit : (held : List ℕ) (d : ℕ) → d < 16 → Few 2 held → stepOf (at (Open Ascii) held) (digit d) ≡ goes (Digit d) held
+first-digit : (held : List ℕ) (d : ℕ) → d < 16 → Few 2 held
+    → stepOf (at (Open Ascii) held) (digit d) ≡ goes (Digit d) held
 unfolding stepOf
 first-digit [] d h k = rw (digit-no-start d h, value-digit d h)
 first-digit (L ∷ rest) d h k = rw (digit-no-start d h, lt-leb (L + 2) (length rest) (k .1), value-digit d h)
@@ -99,7 +101,8 @@ byte-on Ascii held b h k =
     let high = b / 16 in
     let low = b % 16 in
     let whole : high * 16 + low ≡ b = div-add-mod' b 16 in
-    leads-then (leads-by (at (Open Ascii) held) (digit high) (Digit high) held (first-digit held high (omega arith) (room-for held b (k .0))))
+    let first = first-digit held high (omega arith) (room-for held b (k .0)) in
+    leads-then (leads-by (at (Open Ascii) held) (digit high) (Digit high) held first)
     (leads-by (at (Digit high) held) (digit low) (Open Ascii) (held ++ (b ∷ []))
     (second-digit held high low (omega arith) ∙ ap (takes Ascii held) whole ∙ takes-on Ascii held b k))
 
@@ -126,7 +129,8 @@ starts : (f : Framing) → Leads (at (Skipping f) []) (startOf f ∷ []) (at (Op
 unfolding stepOf
 starts f = leads-by (at (Skipping f) []) (startOf f) (Open f) [] (rw (eq-eqb (startOf f) (startOf f) refl))
 
-opened : (f : Framing) (held : List ℕ) → Bytes held → Fits (Open f) held → Leads (at (Skipping f) []) (startOf f ∷ coding f held) (at (Open f) held)
+opened : (f : Framing) (held : List ℕ) → Bytes held → Fits (Open f) held
+    → Leads (at (Skipping f) []) (startOf f ∷ coding f held) (at (Open f) held)
 opened f held b k = leads-then (starts f) (bytes-on f [] held b k)
 
 wider : (held : List ℕ) → Few 2 held → Few 3 held
@@ -142,8 +146,9 @@ leads (Open f) held o b k = opened f held b k
 leads Escape held o b k =
     leads-then (opened Binary held b k) (leads-by (at (Open Binary) held) 0x7D Escape held refl)
 leads (Digit d) held o b k =
+    let first = first-digit held d (omega (arith, leb-true d 15 (k .1))) (k .0) in
     leads-then (opened Ascii held b (wider held (k .0), refl))
-    (leads-by (at (Open Ascii) held) (digit d) (Digit d) held (first-digit held d (omega (arith, leb-true d 15 (k .1))) (k .0)))
+    (leads-by (at (Open Ascii) held) (digit d) (Digit d) held first)
 
 onward : (m : Mode) (held : List ℕ) → isOpen m ≡ true → Bytes held → Fits m held → (more : List ℕ)
     → handedOf (framingOf m) (leadTo m held ++ more) ≡ run (at m held) more

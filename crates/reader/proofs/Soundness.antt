@@ -1,4 +1,5 @@
--- Soundness as facts on the bytes held: a sound reader holds at most `longest + 3`, and they make a sound state. Assumes nothing.
+-- Soundness as facts on the bytes held: a sound reader holds at most `longest + 3`, and they make a sound state.
+-- Assumes nothing.
 use Prim.Native.Nat.{ℕ, zero, suc, _+_, _≤_, _<_}
 use native.Mathlib.Omega.{arith}
 use mathlib.Core.Path.{_≡_, refl}
@@ -58,7 +59,8 @@ pub reader-fits : (r : Reader) → soundReader r ≡ true → Fits (r .mode) (ta
 reader-fits r h = front-fits (r .mode) (r .held) (r .bytes) h
 
 -- bytes held that a list begins with
-pub fits-sound : (m : Mode) (held more : List ℕ) → Fits m held → soundWith m (length held) (getD (held ++ more) 0 0) ≡ true
+pub fits-sound : (m : Mode) (held more : List ℕ) → Fits m held
+    → soundWith m (length held) (getD (held ++ more) 0 0) ≡ true
 fits-sound m [] more k = k .1
 fits-sound m (L ∷ rest) more k =
     rw (eqb·suc-zero (length rest), k .0 .0, le-leb (suc (length rest)) (L + beyondLength m) (k .0 .1), k .1)

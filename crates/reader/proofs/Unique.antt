@@ -1,5 +1,6 @@
--- Exactly one answer meets each public function's promise: the reader with every byte of its array, the verdict and the used bytes. Each theorem is
--- over the predicate that the function's own contract makes, so that a weaker contract breaks it. Assumes nothing.
+-- Exactly one answer meets each public function's promise: the reader with every byte of its array, the verdict and the
+-- used bytes. Each theorem is over the predicate that the function's own contract makes, so that a weaker contract
+-- breaks it. Assumes nothing.
 use Prim.Native.Nat.{ℕ}
 use mathlib.Core.Path.{_≡_, refl, sym, ap, ap₂, _∙_}
 use mathlib.Core.List.{List, [], _∷_}
@@ -80,8 +81,9 @@ scan-unique κs a e e′ x y p q =
 
 gives-some : (r : Reader) (bs : List ℕ) → Gives (readOf r bs .reader) (saidFor (readOf r bs .said)) (readOf r bs)
 gives-some r bs =
+    let a = readOf r bs in
     let v = one-verdict r bs in
-    record { next = refl; verdict = v; handed = handed-from-verdict r bs (readOf r bs .reader) (saidFor (readOf r bs .said)) v refl }
+    record { next = refl; verdict = v; handed = handed-from-verdict r bs (a .reader) (saidFor (a .said)) v refl }
 
 pub step-some : (r : Reader) (b : ℕ) → (x : Stepped) × Steps r b (x .reader) (x .said)
 step-some r b = (stepped (readOf r (b ∷ []) .reader) (saidFor (readOf r (b ∷ []) .said)), gives-some r (b ∷ []))

@@ -1,5 +1,5 @@
--- The readers met from a fresh one are the sound ones, so that 12 is never given; and a read uses the fewest bytes that give the stream one verdict
--- more, or all. Assumes nothing.
+-- The readers met from a fresh one are the sound ones, so that 12 is never given; and a read uses the fewest bytes that
+-- give the stream one verdict more, or all. Assumes nothing.
 use Prim.Native.Nat.{ℕ, _≤_, _<_}
 use native.Mathlib.Omega.{arith}
 use mathlib.Core.Path.{_≡_, refl, sym, ap, _∙_, subst}
@@ -31,7 +31,8 @@ pub record Met (f : Framing) (stream : List ℕ) (r : Reader) : Type 0 where
   pub sound : soundReader r ≡ true
   pub goes-on : (more : List ℕ) → handedOf f (stream ++ more) ≡ handedOf f stream ++ run (stateOf r) more
 
-met-read : (f : Framing) (stream bs : List ℕ) (r : Reader) → Met f stream r → Met f (stream ++ take (readOf r bs .used) bs) (readOf r bs .reader)
+met-read : (f : Framing) (stream bs : List ℕ) (r : Reader) → Met f stream r
+    → Met f (stream ++ take (readOf r bs .used) bs) (readOf r bs .reader)
 met-read f stream bs r m = record {
   whole = whole-read r bs (m .whole);
   sound = sound-read r bs (m .sound);
@@ -59,7 +60,8 @@ pub met-sound : {f : Framing} {stream : List ℕ} {r : Reader} → Reached f str
 met-sound m = met m .sound
 
 -- and never gives 12
-pub met-verdict : {f : Framing} {stream : List ℕ} {r : Reader} → Reached f stream r → (bs : List ℕ) (h : Handed) (hs : List Handed)
+pub met-verdict : {f : Framing} {stream : List ℕ} {r : Reader} → Reached f stream r
+    → (bs : List ℕ) (h : Handed) (hs : List Handed)
     → readOf r bs .said ≡ h ∷ hs → h .verdict ≤ 8
 met-verdict {f} {stream} {r} m bs h hs e = sound-verdict r bs h hs (met m .sound) e
 
@@ -120,14 +122,15 @@ module _ (f : Framing) (bs : List ℕ) (s : State) (w : Leads (record { mode = S
   meets : Meets f bs s
   meets =
       let r = freshReader f in
-      let sound = read-sound r bs refl in
+      let all = ap (λ (a : Given). take (a .used) bs) (read-sound r bs refl) ∙ all-used in
       record {
         reader = readOf r bs .reader;
-        reached = subst (λ l. Reached f l (readOf r bs .reader)) (ap (λ (a : Given). take (a .used) bs) sound ∙ all-used) (read bs fresh);
+        reached = subst (λ l. Reached f l (readOf r bs .reader)) all (read bs fresh);
         same = state-read r bs refl ∙ sym (scanned from bs .goes-to) ∙ ap (after from) all-used ∙ w .there;
       }
 
--- EVERY SOUND READER IN A FRAME IS MET, but for the bytes of its array that it does not hold; that each reader met is sound is `met-sound`
+-- EVERY SOUND READER IN A FRAME IS MET, but for the bytes of its array that it does not hold; that each reader met is
+-- sound is `met-sound`
 pub sound-met : (r : Reader) → soundReader r ≡ true → isOpen (r .mode) ≡ true → Bytes (stateOf r .held)
     → Meets (framingOf (r .mode)) (streamTo r) (stateOf r)
 sound-met r h o b =
@@ -138,8 +141,9 @@ sound-met r h o b =
 module _ (f : Framing) (stream bs : List ℕ) where
   not-sooner : (u v : ℕ) (x y : List Handed) → Uses f stream bs u x → Uses f stream bs v y → u < v → ⊥
   not-sooner u v x y p q h =
-      let same : handedOf f stream ++ [] ≡ handedOf f stream ++ x = append-nil (handedOf f stream) ∙ sym (q .none-sooner u h) ∙ p .verdict in
-      let none-said : x ≡ [] = sym (append-cancel-left (handedOf f stream) [] x same) in
+      let before = handedOf f stream in
+      let same : before ++ [] ≡ before ++ x = append-nil before ∙ sym (q .none-sooner u h) ∙ p .verdict in
+      let none-said : x ≡ [] = sym (append-cancel-left before [] x same) in
       omega (arith, p .or-all none-said, q .within)
 
   equal : (u v : ℕ) → (u < v → ⊥) → (v < u → ⊥) → (s : Bool) → ltb u v ≡ s → (t : Bool) → ltb v u ≡ t → u ≡ v
@@ -152,5 +156,6 @@ module _ (f : Framing) (stream bs : List ℕ) where
   used-unique u v x y p q =
       let e : u ≡ v = equal u v (not-sooner u v x y p q) (not-sooner v u y x q p) (ltb u v) refl (ltb v u) refl in (
         e,
-        append-cancel-left (handedOf f stream) x y (sym (p .verdict) ∙ ap (λ n. handedOf f (stream ++ take n bs)) e ∙ q .verdict),
+        append-cancel-left (handedOf f stream) x y
+            (sym (p .verdict) ∙ ap (λ n. handedOf f (stream ++ take n bs)) e ∙ q .verdict),
       )

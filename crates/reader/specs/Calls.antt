@@ -1,5 +1,5 @@
--- Callers of `read`, for demand 3: reads handed in one after another, and what a call left unused before the next. Over `readOf` alone.
--- Assumes nothing.
+-- Callers of `read`, for demand 3: reads handed in one after another, and what a call left unused before the next. Over
+-- `readOf` alone. Assumes nothing.
 use Prim.Native.Nat.{ℕ, zero, suc, _+_, _≤_, _<_}
 use mathlib.Core.Path.{_≡_}
 use mathlib.Core.List.{List, [], _∷_, _++_}
@@ -39,15 +39,18 @@ drive r reads = callsOf (length (joined reads) + length reads) r reads
 -- any caller: after a call it hands in what was left and what is still to come, cut again as it likes
 pub data Calls : Reader → List (List ℕ) → List Handed → Type 0 where
   finished : {r : Reader} → Calls r [] []
-  call : {r : Reader} {bs : List ℕ} {reads again : List (List ℕ)} {hs : List Handed} → joined again ≡ drop (readOf r bs .used) bs ++ joined reads
+  call : {r : Reader} {bs : List ℕ} {reads again : List (List ℕ)} {hs : List Handed}
+      → joined again ≡ drop (readOf r bs .used) bs ++ joined reads
       → Calls (readOf r bs .reader) again hs → Calls r (bs ∷ reads) (readOf r bs .said ++ hs)
 
 -- the readers met from a fresh one, with all the bytes that the reads have used
 pub data Reached (f : Framing) : List ℕ → Reader → Type 0 where
   fresh : Reached f [] (freshReader f)
-  read : {stream : List ℕ} {r : Reader} (bs : List ℕ) → Reached f stream r → Reached f (stream ++ take (readOf r bs .used) bs) (readOf r bs .reader)
+  read : {stream : List ℕ} {r : Reader} (bs : List ℕ) → Reached f stream r
+      → Reached f (stream ++ take (readOf r bs .used) bs) (readOf r bs .reader)
 
--- a stream that leads to a mode and the bytes held: none between frames; in a frame its start, those bytes as they are sent, and what is pending
+-- a stream that leads to a mode and the bytes held: none between frames; in a frame its start, those bytes as they are
+-- sent, and what is pending
 abbrev pub leadTo : Mode → List ℕ → List ℕ
 leadTo (Skipping f) held = []
 leadTo (Open f) held = startOf f ∷ coding f held
@@ -64,8 +67,8 @@ pub record Meets (f : Framing) (stream : List ℕ) (s : State) : Type 0 where
   pub reached : Reached f stream reader
   pub same : stateOf reader ≡ s
 
--- the used-byte rule, from the bytes: after a stream, a read uses the fewest bytes that give the stream one verdict more, and says that verdict;
--- or it uses all, and the stream has no verdict more
+-- the used-byte rule, from the bytes: after a stream, a read uses the fewest bytes that give the stream one verdict
+-- more, and says that verdict; or it uses all, and the stream has no verdict more
 pub record Uses (f : Framing) (stream bs : List ℕ) (used : ℕ) (said : List Handed) : Type 0 where
   pub within : used ≤ length bs
   pub verdict : handedOf f (stream ++ take used bs) ≡ handedOf f stream ++ said

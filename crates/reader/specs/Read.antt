@@ -1,5 +1,5 @@
--- Document 01: "Given a read, the reader goes up to and including the first verdict's byte, or to the end, and says how many bytes it used."
--- And what `step` and `read` promise. Assumes nothing.
+-- Document 01: "Given a read, the reader goes up to and including the first verdict's byte, or to the end, and says how
+-- many bytes it used." And what `step` and `read` promise. Assumes nothing.
 use Prim.Native.Nat.{ℕ, suc}
 use mathlib.Core.Path.{_≡_}
 use mathlib.Core.Bool.{Bool, cond}

@@ -1,5 +1,5 @@
--- What is decided stays decided: a part whose bytes have their verdict has the same one, whatever bytes follow. So every part that is decided is
--- reported after all kinds of noise. Assumes nothing.
+-- What is decided stays decided: a part whose bytes have their verdict has the same one, whatever bytes follow. So
+-- every part that is decided is reported after all kinds of noise. Assumes nothing.
 use Prim.Native.Nat.{ℕ, zero, suc, _+_, _*_, _≤_, _<_}
 use native.Mathlib.Omega.{arith}
 use mathlib.Core.Path.{_≡_, refl, ap, _∙_}
@@ -14,8 +14,10 @@ use borrow.Author.Tests.{eq-eqb, lt-ltb, le-ltb, ltb-false}
 use Rattle.standard.specs.declared.Framing.{Framing}
 use Rattle.standard.specs.declared.Framing.the-variants.{Binary, Ascii}
 use Rattle.standard.specs.Messages.{lengthOk, among}
-use Rattle.standard.specs.Framing.{startOf, Recovered, also, unstuff, valueOf, andDigit, digitsOf, pairs, noDigit, recovered}
-use Rattle.standard.specs.Judge.{Handed, Judged, decided, unfinished, plain, wholeOf, atStop, ended, stuck, frameJudged, judgeAfter, judge}
+use Rattle.standard.specs.Framing.{startOf, Recovered, also, unstuff, valueOf, andDigit, digitsOf, pairs, noDigit}
+use Rattle.standard.specs.Framing.{recovered}
+use Rattle.standard.specs.Judge.{Handed, Judged, decided, unfinished, plain, wholeOf, atStop, ended, stuck}
+use Rattle.standard.specs.Judge.{frameJudged, judgeAfter, judge}
 use Rattle.standard.specs.Stream.{upToStart, handedOf}
 use Rattle.standard.proofs.Judge.{up-to-through, parts-through, handed-append, unstuff-fault}
 
@@ -37,7 +39,8 @@ unstuff-more true (b ∷ a) more =
 unstuff-more false (b ∷ a) more =
     go (eqb b 0x7D) (unstuff (eqb b 0x7D) a) (unstuff (eqb b 0x7D) (a ++ more)) (unstuff-more (eqb b 0x7D) a more)
   where
-    go : (t : Bool) (r r′ : Recovered) → Onward (r .bytes) (r′ .bytes) → Onward (cond t r (also b r) .bytes) (cond t r′ (also b r′) .bytes)
+    go : (t : Bool) (r r′ : Recovered) → Onward (r .bytes) (r′ .bytes)
+        → Onward (cond t r (also b r) .bytes) (cond t r′ (also b r′) .bytes)
     go true r r′ w = w
     go false r r′ w = onward-cons b (r .bytes) (r′ .bytes) w
 
@@ -55,7 +58,8 @@ unfolding digitsOf
 digits-more [] more = inr (record { all = refl; then = refl })
 digits-more (c ∷ a) more = go (valueOf c) refl (digits-more a more)
   where
-    go : (o : Option ℕ) → valueOf c ≡ o → NoneAt a more ⊎ AllDigits a more → NoneAt (c ∷ a) more ⊎ AllDigits (c ∷ a) more
+    go : (o : Option ℕ) → valueOf c ≡ o → NoneAt a more ⊎ AllDigits a more
+        → NoneAt (c ∷ a) more ⊎ AllDigits (c ∷ a) more
     go none e w = inl (record { fewer = rw e (omega arith); same = rw e })
     go (some d) e (inl w) =
         inl (record { fewer = rw e (omega (arith, w .fewer)); same = rw (e, w .same) })
@@ -82,7 +86,8 @@ recovered-more Binary a more = inr (record { none-yet = unstuff-fault false a; b
 recovered-more Ascii a more = go (digits-more a more)
   where
     go : NoneAt a more ⊎ AllDigits a more
-        → Halted (recovered Ascii a) (recovered Ascii (a ++ more)) ⊎ Further (recovered Ascii a) (recovered Ascii (a ++ more))
+        → Halted (recovered Ascii a) (recovered Ascii (a ++ more)) ⊎ Further (recovered Ascii a)
+        (recovered Ascii (a ++ more))
     go (inl w) =
         let few : length (digitsOf a) < length (a ++ more) = omega (arith, w .fewer, length-append a more) in
         inl (record {
@@ -135,20 +140,24 @@ module _ (f : Framing) (a more : List ℕ) (h : Handed) where
   halted [] fault e = e
   halted (L ∷ rest) fault e = go (lengthOk L) (ltb (length rest) (L + 2)) refl e
     where
-      go : (s t : Bool) → ltb (length rest) (L + 2) ≡ t → cond s (cond t (stuck fault) (ended f a L rest)) (plain 4) ≡ decided h
+      go : (s t : Bool) → ltb (length rest) (L + 2) ≡ t
+          → cond s (cond t (stuck fault) (ended f a L rest)) (plain 4) ≡ decided h
           → cond s (cond t (stuck fault) (ended f (a ++ more) L rest)) (plain 4) ≡ decided h
       go true true k w = w
       go true false k w = rw append-nil at (ended-more f a more L rest [] h (ltb-false (length rest) (L + 2) k) w)
       go false t k w = w
 
   -- where it goes on
-  went-on : (bytes extra : List ℕ) (fault fault′ : Option ℕ) → fault ≡ none → frameJudged bytes fault (ended f a) ≡ decided h
+  went-on : (bytes extra : List ℕ) (fault fault′ : Option ℕ) → fault ≡ none
+      → frameJudged bytes fault (ended f a) ≡ decided h
       → frameJudged (bytes ++ extra) fault′ (ended f (a ++ more)) ≡ decided h
   went-on [] extra fault fault′ n e = absurd (stuck-decided fault h n e)
   went-on (L ∷ rest) extra fault fault′ n e = go (lengthOk L) (ltb (length rest) (L + 2)) refl e
     where
-      go : (s t : Bool) → ltb (length rest) (L + 2) ≡ t → cond s (cond t (stuck fault) (ended f a L rest)) (plain 4) ≡ decided h
-          → cond s (cond (ltb (length (rest ++ extra)) (L + 2)) (stuck fault′) (ended f (a ++ more) L (rest ++ extra))) (plain 4) ≡ decided h
+      go : (s t : Bool) → ltb (length rest) (L + 2) ≡ t
+          → cond s (cond t (stuck fault) (ended f a L rest)) (plain 4) ≡ decided h
+          → cond s (cond (ltb (length (rest ++ extra)) (L + 2)) (stuck fault′) (ended f (a ++ more) L (rest ++ extra)))
+          (plain 4) ≡ decided h
       go true true k w = absurd (stuck-decided fault h n w)
       go true false k w =
           let long = ltb-false (length rest) (L + 2) k in
@@ -157,13 +166,15 @@ module _ (f : Framing) (a more : List ℕ) (h : Handed) where
       go false t k w = w
 
 -- WHAT IS DECIDED STAYS DECIDED, whatever follows
-pub decided-more : (f : Framing) (a more : List ℕ) (h : Handed) → judgeAfter f a ≡ decided h → judgeAfter f (a ++ more) ≡ decided h
+pub decided-more : (f : Framing) (a more : List ℕ) (h : Handed) → judgeAfter f a ≡ decided h
+    → judgeAfter f (a ++ more) ≡ decided h
 decided-more f a more h e = go (recovered f a) (recovered f (a ++ more)) (recovered-more f a more) e
   where
     go : (r r′ : Recovered) → Halted r r′ ⊎ Further r r′ → frameJudged (r .bytes) (r .fault) (ended f a) ≡ decided h
         → frameJudged (r′ .bytes) (r′ .fault) (ended f (a ++ more)) ≡ decided h
     go r r′ (inl w) q = rw (w .bytes, w .fault) (halted f a more h (r .bytes) (r .fault) q)
-    go r r′ (inr w) q = rw (w .bytes .is) (went-on f a more h (r .bytes) (w .bytes .extra) (r .fault) (r′ .fault) (w .none-yet) q)
+    go r r′ (inr w) q =
+        rw (w .bytes .is) (went-on f a more h (r .bytes) (w .bytes .extra) (r .fault) (r′ .fault) (w .none-yet) q)
 
 -- ---- in a stream
 
@@ -172,7 +183,8 @@ pub handed-part : (f : Framing) (part q : List ℕ) (h : Handed) → among (star
     → judge f (startOf f ∷ part) ≡ decided h → handedOf f (startOf f ∷ part ++ q) ≡ h ∷ handedOf f q
 handed-part f part q h clear e =
     let x = startOf f in
-    rw (eq-eqb x x refl, up-to-through x part q clear, parts-through x part q clear, decided-more f part (upToStart x q) h e)
+    let still = decided-more f part (upToStart x q) h e in
+    rw (eq-eqb x x refl, up-to-through x part q clear, parts-through x part q clear, still)
 
 -- WHATEVER STANDS BEFORE AND AFTER A PART THAT IS DECIDED: the bytes before are as if its start byte were their last
 pub handed-amid-part : (f : Framing) (p part q : List ℕ) (h : Handed) → among (startOf f) part ≡ false

@@ -1,5 +1,5 @@
--- What a stream hands out: an intact frame is reported whatever stands before and after it, and every start byte has one verdict. And "at most one
--- verdict" by its verdicts. Assumes nothing.
+-- What a stream hands out: an intact frame is reported whatever stands before and after it, and every start byte has
+-- one verdict. And "at most one verdict" by its verdicts. Assumes nothing.
 use Prim.Native.Nat.{ℕ, suc, _+_}
 use native.Mathlib.Omega.{arith}
 use mathlib.Core.Path.{_≡_, refl, ap, ap₂, _∙_}
@@ -31,7 +31,8 @@ verdicts-same (Gave v) (Gave w) e = ap Gave (head-eq-of-cons-eq e)
 -- no start in a frame but its own
 pub no-start : (f : Framing) (m : List ℕ) → among (startOf f) (coding f (bodyOf m) ++ stopOf f) ≡ false
 no-start f m =
-    among-append (startOf f) (coding f (bodyOf m)) (stopOf f) ∙ ap₂ _||_ (no-mark f (bodyOf m) (startOf f) (start f)) (no-stop f)
+    among-append (startOf f) (coding f (bodyOf m)) (stopOf f)
+    ∙ ap₂ _||_ (no-mark f (bodyOf m) (startOf f) (start f)) (no-stop f)
   where
     no-stop : (f : Framing) → among (startOf f) (stopOf f) ≡ false
     no-stop Binary = refl
@@ -44,7 +45,8 @@ unfolding frameOf
 judged-good f m h b = rw append-nil at (judge-frame f m [] h (body-bytes m h b))
 
 -- it hands out its message, and then what follows it hands out its own
-pub handed-frame : (f : Framing) (m q : List ℕ) → checkOf m ≡ 0 → Bytes m → handedOf f (frameOf f m ++ q) ≡ handing 0 m ∷ handedOf f q
+pub handed-frame : (f : Framing) (m q : List ℕ) → checkOf m ≡ 0 → Bytes m
+    → handedOf f (frameOf f m ++ q) ≡ handing 0 m ∷ handedOf f q
 unfolding frameOf
 handed-frame f m q h b =
     handed-part f (coding f (bodyOf m) ++ stopOf f) q (handing 0 m) (no-start f m) (judged-good f m h b)
@@ -80,17 +82,20 @@ one-each unfinished (part ∷ later) = refl
 
 parts-count : (f : Framing) (ps : List (List ℕ)) → length (partsHand f ps) + lastOpen f ps ≡ length ps
 parts-count f [] = refl
-parts-count f (p ∷ ps) = omega (arith, length-append (partHands (judge f p) ps) (partsHand f ps), one-each (judge f p) ps, parts-count f ps)
+parts-count f (p ∷ ps) =
+    omega (arith, length-append (partHands (judge f p) ps) (partsHand f ps), one-each (judge f p) ps, parts-count f ps)
 
 parts-starts : (x : ℕ) (bs : List ℕ) → length (partsOf x bs) ≡ startsOf x bs
 parts-starts x [] = refl
 parts-starts x (b ∷ bs) = by-case (eqb b x) (parts-starts x bs)
   where
     by-case : (t : Bool) → length (partsOf x bs) ≡ startsOf x bs
-        → length (cond t ((b ∷ upToStart x bs) ∷ partsOf x bs) (partsOf x bs)) ≡ cond t (suc (startsOf x bs)) (startsOf x bs)
+        → length (cond t ((b ∷ upToStart x bs) ∷ partsOf x bs) (partsOf x bs))
+        ≡ cond t (suc (startsOf x bs)) (startsOf x bs)
     by-case true h = ap suc h
     by-case false h = h
 
 -- every start byte has one verdict, but for the last if its frame is still open at the end
-pub verdicts-count : (f : Framing) (bs : List ℕ) → length (handedOf f bs) + lastOpen f (partsOf (startOf f) bs) ≡ startsOf (startOf f) bs
+pub verdicts-count : (f : Framing) (bs : List ℕ)
+    → length (handedOf f bs) + lastOpen f (partsOf (startOf f) bs) ≡ startsOf (startOf f) bs
 verdicts-count f bs = parts-count f (partsOf (startOf f) bs) ∙ parts-starts (startOf f) bs
