@@ -1,11 +1,11 @@
 -- Every sound reader is what a stream leads to (`leadTo`): its start, the bytes held as they are sent, and what is
 -- pending. So what is true of the readers met in a stream is true of every sound one. Assumes nothing.
-use Prim.Native.Nat.{ℕ, zero, suc, _+_, _*_, _/_, _%_, _≤_, _<_}
+use Prim.Native.Nat.{ℕ, zero, suc, _+_, _*_, _/_, _%_, _<_}
 use native.Mathlib.Nat.{div-add-mod'}
 use native.Mathlib.Omega.{arith}
 use mathlib.Core.Path.{_≡_, refl, sym, ap, _∙_}
-use mathlib.Core.Bool.{Bool, true, false, false≢true}
-use mathlib.Core.Option.{none, some}
+use mathlib.Core.Bool.{true, false, false≢true}
+use mathlib.Core.Option.{some}
 use mathlib.Core.List.{List, [], _∷_, _++_, flatMap, append-nil, append-assoc}
 use lib.Dec.{eqb}
 use lib.ListN.{length, length-append}
@@ -13,12 +13,10 @@ use borrow.Author.Tests.{eq-eqb, ne-eqb, leb-true, lt-ltb, lt-leb}
 use Rattle.standard.specs.declared.Framing.{Framing}
 use Rattle.standard.specs.declared.Framing.the-variants.{Binary, Ascii}
 use Rattle.standard.specs.Framing.{startOf, digit, coded, coding, stuffed, valueOf}
-use Rattle.standard.specs.Judge.{Handed}
 use Rattle.standard.specs.Stream.{handedOf}
 use Rattle.standard.proofs.Framings.{Bytes, Sent, start-escaped, escape-escaped, as-it-is, sent, value-digit}
 use Rattle.reader.specs.declared.Mode.{Mode}
 use Rattle.reader.specs.declared.Mode.the-variants.{Skipping, Open, Escape, Digit}
-use Rattle.reader.specs.declared.Reader.{Reader}
 use Rattle.reader.specs.Step.{State, Step, framingOf, isOpen, goes, takes, stepOf}
 use Rattle.reader.specs.Calls.{leadTo}
 use Rattle.reader.proofs.Soundness.{Few, Fits}

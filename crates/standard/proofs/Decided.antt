@@ -14,9 +14,9 @@ use borrow.Author.Tests.{eq-eqb, lt-ltb, le-ltb, ltb-false}
 use Rattle.standard.specs.declared.Framing.{Framing}
 use Rattle.standard.specs.declared.Framing.the-variants.{Binary, Ascii}
 use Rattle.standard.specs.Messages.{lengthOk, among}
-use Rattle.standard.specs.Framing.{startOf, Recovered, also, unstuff, valueOf, andDigit, digitsOf, pairs, noDigit}
+use Rattle.standard.specs.Framing.{startOf, Recovered, also, unstuff, valueOf, digitsOf, pairs}
 use Rattle.standard.specs.Framing.{recovered}
-use Rattle.standard.specs.Judge.{Handed, Judged, decided, unfinished, plain, wholeOf, atStop, ended, stuck}
+use Rattle.standard.specs.Judge.{Handed, decided, plain, wholeOf, atStop, ended, stuck}
 use Rattle.standard.specs.Judge.{frameJudged, judgeAfter, judge}
 use Rattle.standard.specs.Stream.{upToStart, handedOf}
 use Rattle.standard.proofs.Judge.{up-to-through, parts-through, handed-append, unstuff-fault}

@@ -15,16 +15,14 @@ use lib.Seq.{take-suc}
 use borrow.Author.Tests.{eqb-true, eqb-false, ltb-true, ltb-false, leb-true, lt-ltb, le-ltb, ne-eqb, le-leb, lt-leb}
 use Rattle.standard.specs.declared.Framing.{Framing}
 use Rattle.standard.specs.declared.Framing.the-variants.{Binary, Ascii}
+pub use Rattle.standard.specs.Words.{Bytes}
+pub use Rattle.standard.specs.Framing.{mostOf}
 use Rattle.standard.specs.Sums.{sumsOf}
 use Rattle.standard.specs.Messages.{among, known, lengthFor, checkOf}
 use Rattle.standard.specs.Framing.{startOf, stopOf, stuffed, digit, twoDigits, coded, coding, bodyOf, frameOf}
 use Rattle.standard.specs.Framing.{Recovered, also, unstuff, valueOf, andDigit, digitsOf, pairs, recovered}
 use Rattle.standard.proofs.Sum.{sums-small}
 use Rattle.standard.proofs.Messages.{both-true, passed}
-
--- bytes, as memory and line hold them
-abbrev pub Bytes : List ℕ → Type 0
-Bytes bs = (i : ℕ) → getD bs i 0 < 256
 
 pub bytes-none : Bytes []
 bytes-none i = lit≤ tt
@@ -245,11 +243,6 @@ type-plain t h = (λ e. h (ap lengthFor e), λ e. h (ap lengthFor e))
 stuffed-plain : (b : ℕ) → Plain b → stuffed b ≡ b ∷ []
 unfolding Plain
 stuffed-plain b h = rw (ne-eqb b 0x7E (h .0), ne-eqb b 0x7D (h .1))
-
--- "A written binary frame has at most 41 bytes, an ASCII frame at most 44"
-abbrev pub mostOf : Framing → ℕ
-mostOf Binary = 41
-mostOf Ascii = 44
 
 -- room for the longest
 pub most-few : (f : Framing) → mostOf f ≤ 44

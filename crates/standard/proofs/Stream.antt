@@ -14,7 +14,7 @@ use Rattle.standard.specs.declared.Said.the-variants.{Silent, Gave}
 use Rattle.standard.specs.Messages.{among, checkOf}
 use Rattle.standard.specs.Framing.{startOf, stopOf, coding, bodyOf, frameOf}
 use Rattle.standard.specs.Judge.{Judged, decided, unfinished, handing, judge, verdictsIn}
-use Rattle.standard.specs.Stream.{upToStart, partsOf, partHands, partsHand, handedOf}
+use Rattle.standard.specs.Stream.{upToStart, partsOf, partHands, partsHand, handedOf, startsOf, openOf, lastOpen}
 use Rattle.standard.proofs.Framings.{Bytes, body-bytes, among-append, start, no-mark}
 use Rattle.standard.proofs.Judge.{judge-frame}
 use Rattle.standard.proofs.Decided.{handed-part, handed-amid-part}
@@ -59,21 +59,6 @@ handed-amid f p m q h b =
     handed-amid-part f p (coding f (bodyOf m) ++ stopOf f) q (handing 0 m) (no-start f m) (judged-good f m h b)
 
 -- ---- how many verdicts
-
--- the start bytes of a stream
-abbrev pub startsOf : ℕ → List ℕ → ℕ
-startsOf x [] = 0
-startsOf x (b ∷ bs) = cond (eqb b x) (suc (startsOf x bs)) (startsOf x bs)
-
--- 1 for a part still open at the end
-abbrev pub openOf : Judged → List (List ℕ) → ℕ
-openOf (decided h) later = 0
-openOf unfinished [] = 1
-openOf unfinished (part ∷ later) = 0
-
-abbrev pub lastOpen : Framing → List (List ℕ) → ℕ
-lastOpen f [] = 0
-lastOpen f (part ∷ later) = openOf (judge f part) later + lastOpen f later
 
 one-each : (j : Judged) (later : List (List ℕ)) → length (partHands j later) + openOf j later ≡ 1
 one-each (decided h) later = refl
