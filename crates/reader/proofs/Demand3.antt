@@ -117,8 +117,24 @@ cuts f reads others e = reads-are-parts f reads ∙ ap (handedOf f) e ∙ sym (r
 
 -- ---- an intact part is reported after all kinds of noise, and whatever follows it
 
--- every part that is decided: a start byte, and bytes with no start among them of which the whole judgement is h. By
--- any caller
+-- every part that is decided: a start byte, and bytes with no start among them of which the whole judgement is h.
+-- From every sound reader, by any caller: what the reader held is noise before it too
+pub intact-sound : (r : Reader) (p part q : List ℕ) (h : Handed) {reads : List (List ℕ)} {hs : List Handed}
+    → soundReader r ≡ true → Bytes (stateOf r .held)
+    → among (startOf (framingOf (r .mode))) part ≡ false
+    → judge (framingOf (r .mode)) (startOf (framingOf (r .mode)) ∷ part) ≡ decided h
+    → joined reads ≡ p ++ (startOf (framingOf (r .mode)) ∷ part ++ q) → Calls r reads hs
+    → hs
+    ≡ handedOf (framingOf (r .mode)) (streamTo r ++ p ++ (startOf (framingOf (r .mode)) ∷ []))
+    ++ (h ∷ handedOf (framingOf (r .mode)) q)
+intact-sound r p part q h s b clear d e c =
+    let f = framingOf (r .mode) in
+    sound-caller r s b c
+    ∙ ap (λ l. handedOf f (streamTo r ++ l)) e
+    ∙ ap (handedOf f) (sym (append-assoc (streamTo r) p (startOf f ∷ part ++ q)))
+    ∙ handed-amid-part f (streamTo r ++ p) part q h clear d
+
+-- from a fresh one
 pub intact-calls : (f : Framing) (p part q : List ℕ) (h : Handed) {reads : List (List ℕ)} {hs : List Handed}
     → among (startOf f) part ≡ false → judge f (startOf f ∷ part) ≡ decided h
     → joined reads ≡ p ++ (startOf f ∷ part ++ q)

@@ -159,3 +159,11 @@ module _ (f : Framing) (stream bs : List ℕ) where
         append-cancel-left (handedOf f stream) x y
             (sym (p .verdict) ∙ ap (λ n. handedOf f (stream ++ take n bs)) e ∙ q .verdict),
       )
+
+-- so every sound reader's read is the one answer that meets it
+pub sound-used-unique : (r : Reader) (bs : List ℕ) (used : ℕ) (said : List Handed) → soundReader r ≡ true
+    → Bytes (stateOf r .held) → Uses (framingOf (r .mode)) (streamTo r) bs used said
+    → (used ≡ readOf r bs .used) × (said ≡ readOf r bs .said)
+sound-used-unique r bs used said h b p =
+    used-unique (framingOf (r .mode)) (streamTo r) bs used (readOf r bs .used) said (readOf r bs .said) p
+    (sound-used r bs h b)

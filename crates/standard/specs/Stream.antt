@@ -17,7 +17,7 @@ abbrev pub partsOf : ℕ → List ℕ → List (List ℕ)
 partsOf start [] = []
 partsOf start (b ∷ bs) = let later = partsOf start bs in cond (eqb b start) ((b ∷ upToStart start bs) ∷ later) later
 
--- "an unfinished part is cut short if another start follows, silent if none does"
+-- "an unfinished part being cut short if another start follows and silent if none does"
 abbrev pub partHands : Judged → List (List ℕ) → List Handed
 partHands (decided h) later = h ∷ []
 partHands unfinished [] = []
