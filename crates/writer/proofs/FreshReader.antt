@@ -19,7 +19,7 @@ use Rattle.reader.specs.Step.{State}
 use Rattle.reader.specs.Read.{freshReader, readOf}
 use Rattle.reader.specs.Calls.{fresh, Uses}
 use Rattle.reader.proofs.Parts.{run, after, run-append, run-parts}
-use Rattle.reader.proofs.Used.{used-rule, used-one}
+use Rattle.reader.proofs.Used.{used-rule, used-unique}
 use Rattle.writer.proofs.RoundTrip.{FrameReads, frame-reads, write-then-read-one}
 
 neither : (a b : Bool) → (a || b) ≡ false → a ≡ false
@@ -74,5 +74,5 @@ module _ (f : Framing) (m q : List ℕ) (good : checkOf m ≡ 0) (bytes : Bytes 
   -- WRITTEN, THEN READ by a fresh reader: the message, and exactly the frame's bytes used
   pub fresh-reads : (readOf (freshReader f) (frameOf f m ++ q) .used ≡ length (frameOf f m)) × (readOf (freshReader f) (frameOf f m ++ q) .said ≡ handing 0 m ∷ [])
   fresh-reads =
-      used-one f [] (frameOf f m ++ q) (readOf (freshReader f) (frameOf f m ++ q) .used) (length (frameOf f m)) (readOf (freshReader f) (frameOf f m ++ q) .said)
+      used-unique f [] (frameOf f m ++ q) (readOf (freshReader f) (frameOf f m ++ q) .used) (length (frameOf f m)) (readOf (freshReader f) (frameOf f m ++ q) .said)
       (handing 0 m ∷ []) (used-rule fresh (frameOf f m ++ q)) uses
