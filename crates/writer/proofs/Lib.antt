@@ -5,4 +5,3 @@ pub mod RoundTrip
 pub mod ReadBack
 pub mod Needless
 pub mod Unique
-pub mod FreshReader
