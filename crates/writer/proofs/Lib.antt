@@ -1,5 +1,6 @@
 pub mod Fit
-pub mod Part
+pub mod Pieces
+pub mod Lengths
 pub mod Answers
 pub mod RoundTrip
 pub mod ReadBack
