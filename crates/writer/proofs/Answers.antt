@@ -35,7 +35,7 @@ module _ (m : List ℕ) (f : Framing) (out : List ℕ) (place : ℕ) where
   told-refused n e h = record { says = rw (e, ne-eqb n 0 h); leaves = rw (e, ne-eqb n 0 h) }
 
   -- the frame is laid over the buffer, and its length said
-  pub told-written : (n : ℕ) (after : List ℕ) → writeRefusal m f out place ≡ 0 → n ≡ length (frameOf f m) → after ≡ laid out place (frameOf f m)
-      → Wrote m f out place (record { number = 0; length = n }) after
+  pub told-written : (n : ℕ) (after : List ℕ) → writeRefusal m f out place ≡ 0 → n ≡ length (frameOf f m)
+      → after ≡ laid out place (frameOf f m) → Wrote m f out place (record { number = 0; length = n }) after
   unfolding writtenOf afterWrite
   told-written n after e k l = record { says = rw (e, k); leaves = rw e l }

@@ -31,8 +31,11 @@ short frame place size h = rw (lt-ltb (size - place) frame h)
 pub fits : (frame place size : ℕ) → place ≤ size → frame ≤ size - place → noRoom frame place size ≡ false
 fits frame place size h k = rw (le-ltb size place h, le-ltb (size - place) frame k)
 
-pub fit : (sums : Sums) (frame place size : ℕ) → laterRefusal sums frame place size ≡ 0 → (place ≤ size) × (frame ≤ size - place)
+pub fit : (sums : Sums) (frame place size : ℕ) → laterRefusal sums frame place size ≡ 0
+    → (place ≤ size) × (frame ≤ size - place)
 fit sums frame place size e =
-    let later = first-none (eqb (sums .one) 0xFF || eqb (sums .two) 0xFF) 10 ((noRoom frame place size, 9) ∷ []) (λ z. omega arith) e .1 in
-    let told = neither (ltb (size - place) frame) (ltb size place) (first-none (noRoom frame place size) 9 [] (λ z. omega arith) later .0) in
+    let ff = eqb (sums .one) 0xFF || eqb (sums .two) 0xFF in
+    let later = first-none ff 10 ((noRoom frame place size, 9) ∷ []) (λ z. omega arith) e .1 in
+    let none = first-none (noRoom frame place size) 9 [] (λ z. omega arith) later .0 in
+    let told = neither (ltb (size - place) frame) (ltb size place) none in
     (ltb-false size place (told .1), ltb-false (size - place) frame (told .0))

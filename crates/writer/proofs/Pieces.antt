@@ -11,7 +11,7 @@ use Rattle.standard.specs.Framing.{startOf, stopOf, coded, coding, frameOf}
 use Rattle.standard.proofs.Put.{put-length}
 use Rattle.standard.proofs.Framings.{coding-append, coding-more}
 
-coding-cons : (f : Framing) (b : ℕ) (bs : List ℕ) → coding f (b ∷ bs) ≡ coded f b ++ coding f bs
+pub coding-cons : (f : Framing) (b : ℕ) (bs : List ℕ) → coding f (b ∷ bs) ≡ coded f b ++ coding f bs
 unfolding coding flatMap
 coding-cons f b bs = refl
 

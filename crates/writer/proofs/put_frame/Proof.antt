@@ -51,13 +51,15 @@ message-stands : (c : tie.After-put-message)
 message-stands c = put-then (length-stands (c .before .before .before .before)) (c .put-message .ensures)
 
 one-stands : (c : tie.After-put-coded2)
-    → Stands (from-one c) (pieces.toOne (f (from-one c)) (m (from-one c))) (c .put-coded2 .last .0) (c .put-coded2 .result)
+    → Stands (from-one c) (pieces.toOne (f (from-one c)) (m (from-one c))) (c .put-coded2 .last .0)
+    (c .put-coded2 .result)
 one-stands c =
     put-then (message-stands (c .before .before .before .before))
     (rw (from-one c .pre .1 .0) at (c .put-coded2 .ensures))
 
 two-stands : (c : tie.After-put-coded3)
-    → Stands (from-two c) (pieces.toTwo (f (from-two c)) (m (from-two c))) (c .put-coded3 .last .0) (c .put-coded3 .result)
+    → Stands (from-two c) (pieces.toTwo (f (from-two c)) (m (from-two c))) (c .put-coded3 .last .0)
+    (c .put-coded3 .result)
 two-stands c =
     put-then (one-stands (c .before .before .before .before))
     (rw (from-two c .pre .1 .0) at (c .put-coded3 .ensures))

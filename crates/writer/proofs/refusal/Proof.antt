@@ -23,7 +23,8 @@ returns-4 c =
 returns-5 : tie.Need-returns-5
 returns-5 c =
     let sums = c .before .before in
-    rw (ne-eqb _ _ (sums .before .before .if1 .left), ne-eqb _ _ (sums .if2 .left), fits _ _ _ (c .before .if3 .left) (c .if4 .left))
+    let room = fits _ _ _ (c .before .if3 .left) (c .if4 .left) in
+    rw (ne-eqb _ _ (sums .before .before .if1 .left), ne-eqb _ _ (sums .if2 .left), room)
 
 pub refusal-spec : {M : Type 1} → statement M
 refusal-spec = tie.close (tie.spec returns returns-2 returns-3 returns-4 returns-5)
