@@ -61,6 +61,14 @@ frame-few f (t ∷ m) h =
     let sum2 = coded-one-or-two f (two f (t ∷ m)) .few in
     omega (arith, few, head, all, split, rest, sum1, sum2)
 
+-- an ASCII frame is the longest
+most-few : (f : Framing) → mostOf f ≤ mostOf Ascii
+most-few Binary = lit≤ tt
+most-few Ascii = lit≤ tt
+
+pub frame-most : (f : Framing) (m : List ℕ) → checkOf m ≡ 0 → length (frameOf f m) ≤ mostOf Ascii
+frame-most f m h = let own = frame-few f m h in let most = most-few f in omega (arith, own, most)
+
 -- "at most 41 bytes", "at most 44"
 pub most-is : (mostOf Binary ≡ 41) × (mostOf Ascii ≡ 44)
 most-is = (refl, refl)

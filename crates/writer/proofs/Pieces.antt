@@ -1,15 +1,17 @@
 -- A frame in the pieces in which it is measured and put: start, length, message, two sums, stop. Assumes nothing.
-use Prim.Native.Nat.{ℕ, _+_, _≤_, _<_}
+use Prim.Native.Nat.{ℕ, suc, _+_, _*_, _≤_, _<_}
 use native.Mathlib.Omega.{arith}
 use mathlib.Core.Path.{_≡_, refl, sym, ap, _∙_}
 use mathlib.Core.List.{List, [], _∷_, _++_, flatMap, append-assoc, append-nil}
 use lib.ListN.{length, getD, take, drop, length-append, take-append-drop}
 use Rattle.standard.specs.declared.Framing.{Framing}
+use Rattle.standard.specs.declared.Framing.the-variants.{Ascii}
 use Rattle.standard.specs.Words.{Put}
 use Rattle.standard.specs.Sums.{sumsOf}
 use Rattle.standard.specs.Framing.{startOf, stopOf, coded, coding, frameOf}
+use Rattle.standard.proofs.Sum.{stepped, sums-none, sums-more, sums-turn}
 use Rattle.standard.proofs.Put.{put-length}
-use Rattle.standard.proofs.Framings.{coding-append, coding-more}
+use Rattle.standard.proofs.Framings.{coding-append, coding-more, ascii-length}
 
 pub coding-cons : (f : Framing) (b : ℕ) (bs : List ℕ) → coding f (b ∷ bs) ≡ coded f b ++ coding f bs
 unfolding coding flatMap
@@ -84,6 +86,10 @@ module _ (f : Framing) (m : List ℕ) where
         stop = simp (length-append {A = ℕ}) (omega arith);
       }
 
+-- ASCII has two characters for each byte
+pub ascii-size : (m : List ℕ) → length (frameOf Ascii m) ≡ 2 * length m + 8
+ascii-size m = let all = pieces-length Ascii m in let message = ascii-length m in omega (arith, all, message)
+
 -- the turn of a loop that measures: one more byte
 pub length-more : (f : Framing) (bs : List ℕ) (i : ℕ) → i < length bs
     → length (coding f (take i bs)) + length (coded f (getD bs i 0)) ≡ length (coding f (take (i + 1) bs))
@@ -98,6 +104,17 @@ coding-part f bs i =
     ∙ ap length (coding-append f (take i bs) (drop i bs))
     ∙ length-append (coding f (take i bs)) (coding f (drop i bs)) in
     omega arith
+
+-- the sums of the length byte
+pub sums-first : (L : ℕ) → stepped (record { one = 0; two = 0 }) L ≡ sumsOf (L ∷ [])
+sums-first L = ap (λ s. stepped s L) (sym sums-none) ∙ sym (sums-more [] L)
+
+-- and of one message byte more
+pub sums-next : (L : ℕ) (m : List ℕ) (i : ℕ) → i < length m
+    → stepped (sumsOf (L ∷ take i m)) (getD m i 0) ≡ sumsOf (L ∷ take (i + 1) m)
+sums-next L m i h =
+    let places : suc i + 1 ≡ suc (i + 1) = omega arith in
+    sums-turn (L ∷ m) (suc i) (omega arith) ∙ ap (λ k. sumsOf (take k (L ∷ m))) places
 
 -- a piece fits behind what was put, where both fit from the beginning on
 pub next-fits : {l a l′ : List ℕ} {n : ℕ} (b : List ℕ) → Put l 0 a l′ n → length a + length b ≤ length l

@@ -2,7 +2,7 @@
 -- byte for byte exactly if its only escapes were needed. Assumes nothing.
 use Prim.Native.Nat.{ℕ, _+_, _-_, _≤_}
 use mathlib.Core.Path.{_≡_, refl, sym, ap, _∙_}
-use mathlib.Core.Bool.{Bool, true, false, cond}
+use mathlib.Core.Bool.{Bool, true, false}
 use mathlib.Core.List.{List, [], _∷_, _++_, append-assoc, cons≢nil}
 use lib.Dec.{eqb}
 use lib.ListN.{length, take, drop}
@@ -11,20 +11,16 @@ use borrow.Author.Tests.{eqb-true, eqb-false}
 use Rattle.standard.specs.declared.Framing.{Framing}
 use Rattle.standard.specs.declared.Written.{Written}
 use Rattle.standard.specs.Words.{laid}
-use Rattle.standard.specs.Sums.{sumsOf}
 use Rattle.standard.specs.Messages.{checkOf}
 use Rattle.standard.specs.Framing.{startOf, frameOf}
 use Rattle.standard.specs.Judge.{handing}
 use Rattle.standard.specs.Stream.{handedOf}
-use Rattle.standard.specs.Writer.{sumIsFF, noRoom, writeRefusal, writtenOf, afterWrite, Wrote}
-use Rattle.standard.proofs.Sum.{never-ff}
-use Rattle.standard.proofs.Messages.{check-then}
+use Rattle.standard.specs.Writer.{writeRefusal, writtenOf, afterWrite, Wrote}
 use Rattle.standard.proofs.Framings.{Bytes}
 use Rattle.standard.proofs.Judge.{good-check}
-use Rattle.writer.specs.Refusing.{laterRefusal}
 use Rattle.writer.specs.RoundTrip.{escapesNeeded, HandsOut}
 use Rattle.writer.proofs.Fit.{fits, fit}
-use Rattle.writer.proofs.Answers.{later-refusal}
+use Rattle.writer.proofs.Answers.{first-refusal, last-refusal}
 use Rattle.writer.proofs.RoundTrip.{write-then-read-one, read-then-write, written-needed}
 
 -- what was laid from a place on stands there
@@ -48,18 +44,16 @@ module _ (m : List ℕ) (f : Framing) (out : List ℕ) (place : ℕ) where
     room : length (frameOf f m) ≤ length out - place
 
   accepted : writeRefusal m f out place ≡ 0 → Accepted
-  unfolding writeRefusal
-  accepted e =
-      go (eqb (checkOf m) 0) refl
-      (sym (check-then m ((sumIsFF m, 10) ∷ (noRoom (length (frameOf f m)) place (length out), 9) ∷ [])) ∙ e)
+  accepted e = go (eqb (checkOf m) 0) refl
     where
-      go : (t : Bool) → eqb (checkOf m) 0 ≡ t
-          → cond t (laterRefusal (sumsOf (length m ∷ m)) (length (frameOf f m)) place (length out)) (checkOf m) ≡ 0
-          → Accepted
-      go true k q =
-          let told = fit (sumsOf (length m ∷ m)) (length (frameOf f m)) place (length out) q in
-          record { check = eqb-true (checkOf m) 0 k; within = told .0; room = told .1 }
-      go false k q = absurd (eqb-false (checkOf m) 0 k q)
+      go : (t : Bool) → eqb (checkOf m) 0 ≡ t → Accepted
+      go true k =
+          let check = eqb-true (checkOf m) 0 k in
+          let told = fit (length (frameOf f m)) place (length out) (sym (last-refusal m f out place check) ∙ e) in
+          record { check = check; within = told .0; room = told .1 }
+      go false k =
+          let bad = eqb-false (checkOf m) 0 k in
+          absurd (bad (sym (first-refusal m f out place bad) ∙ e))
 
   -- a frame that was not refused stands at its place
   put-frame : (a : Written) (after : List ℕ) → Wrote m f out place a after → writeRefusal m f out place ≡ 0
@@ -92,9 +86,8 @@ module _ (m : List ℕ) (f : Framing) (out : List ℕ) (place : ℕ) where
       let same = read-then-write f front last m r n in
       let room : length (frameOf f m) ≤ length out - place = rw same k in
       let none : writeRefusal m f out place ≡ 0 =
-      later-refusal m f out place (sumsOf (length m ∷ m)) (length (frameOf f m))
-      (good-check f (front ++ (last ∷ [])) m (r .said)) refl refl
-      ∙ rw (never-ff m, fits (length (frameOf f m)) place (length out) h room) in
+      last-refusal m f out place (good-check f (front ++ (last ∷ [])) m (r .said))
+      ∙ rw (fits (length (frameOf f m)) place (length out) h room) in
       (ap (λ (x : Written). x .number) (w .says) ∙ none, put-frame a after w none h ∙ same)
 
   -- AND NOTHING ELSE IS: where the bytes that an answer speaks of are a part, its only escapes were needed

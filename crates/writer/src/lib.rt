@@ -1,6 +1,6 @@
 // The writer: a message becomes a frame, in either framing, in the part of a lent buffer that
-// starts at a place. One pass over the message gives its sums and how long its frame will be, so
-// that every refusal is decided before a byte is stored.
+// starts at a place. Whether the frame fits there is decided before a byte is stored; then it goes
+// straight into that part, in one pass over the message.
 ghost use mathlib.Core.Path.{_≡_};
 ghost use mathlib.Core.List.{[], _∷_};
 ghost use Prim.Native.Nat.{_+_, _≤_};
@@ -8,91 +8,76 @@ ghost use lib.ListN.{length};
 ghost use lib.Seq.{sets};
 ghost use Rattle.standard.specs.Words.{Put};
 ghost use Rattle.standard.specs.Sums.{sumsOf};
-ghost use Rattle.standard.specs.Messages.{longestKnown};
+ghost use Rattle.standard.specs.Messages.{longestKnown, checkOf};
+ghost use Rattle.standard.specs.declared.Framing.the-variants.{Binary};
 ghost use Rattle.standard.specs.Framing.{stopOf, stuffed, twoDigits, coded, coding, frameOf};
 ghost use Rattle.standard.specs.Writer.{Wrote};
-ghost use Rattle.writer.specs.Refusing.{refusing, laterRefusal};
+ghost use Rattle.writer.specs.Refusing.{refusing, roomRefusal};
 use standard::Framing;
 use standard::Sums;
 use standard::Written;
 
-// How many bytes a byte is sent as: two in ASCII, and in binary where an escape goes before it.
-fn coded_length(b: u8, framing: Framing) -> usize
-    ensures { λ r. ⌜ r ≡ length (coded framing b) ⌝ }
+// "An ASCII frame at most 44": the longest frame that is written.
+const LONGEST_FRAME: usize = 2 * standard::LONGEST_KNOWN + 8;
+
+// How many bytes a byte is sent as in binary.
+fn stuffed_length(b: u8) -> usize
+    ensures { λ r. ⌜ r ≡ length (stuffed b) ⌝ }
     ensures { λ r. ⌜ r ≤ 2 ⌝ }
 {
-    match framing {
-        Framing::Binary => {
-            if b == 0x7E {
-                return 2;
-            }
-            if b == 0x7D {
-                return 2;
-            }
-            1
-        }
-        Framing::Ascii => 2,
+    if b == 0x7E {
+        return 2;
     }
-}
-
-// Start and stop together.
-fn marks(framing: Framing) -> usize
-    ensures { λ r. ⌜ r ≡ length (stopOf framing) + 1 ⌝ }
-    ensures { λ r. ⌜ r ≤ 2 ⌝ }
-{
-    match framing {
-        Framing::Binary => 1,
-        Framing::Ascii => 2,
+    if b == 0x7D {
+        return 2;
     }
+    1
 }
 
-// The sums of a message, and how long its frame is.
-struct Measured {
-    sums: Sums,
-    length: usize,
-}
-
-// "Over the length byte and all message bytes", in one pass.
-fn measure(message: &[u8], framing: Framing) -> Measured
+// A binary frame's length, in one pass: the sums may need an escape too.
+fn binary_length(message: &[u8]) -> usize
     requires { ⌜ length (now message) ≤ longestKnown ⌝ }
-    ensures { λ r. ⌜ r .sums ≡ sumsOf (length (now (message .entry)) ∷ now (message .entry)) ⌝ }
-    ensures { λ r. ⌜ r .length ≡ length (frameOf framing (now (message .entry))) ⌝ }
+    ensures { λ r. ⌜ r ≡ length (frameOf Binary (now (message .entry))) ⌝ }
 {
     let n = message.len() as u8;
     let mut one = sums::add(0, n);
     let mut two = sums::add(0, one);
-    let mut size = coded_length(n, framing);
+    let mut size = stuffed_length(n);
     let mut i = 0;
     while i < message.len() {
         let b = message[i];
         one = sums::add(one, b);
         two = sums::add(two, one);
-        size += coded_length(b, framing);
+        size += stuffed_length(b);
         i += 1;
     }
-    size += coded_length(one, framing);
-    size += coded_length(two, framing);
-    Measured {
-        sums: Sums { one, two },
-        length: size + marks(framing),
+    1 + size + stuffed_length(one) + stuffed_length(two)
+}
+
+// How long the frame of a message is.
+fn frame_length(message: &[u8], framing: Framing) -> usize
+    requires { ⌜ length (now message) ≤ longestKnown ⌝ }
+    ensures { λ r. ⌜ r ≡ length (frameOf framing (now (message .entry))) ⌝ }
+{
+    match framing {
+        Framing::Binary => binary_length(message),
+        Framing::Ascii => 2 * message.len() + 8,
     }
 }
 
-// What is refused of a message that passed: "10, 9". No message can cause 10.
-fn refusal(sums: Sums, frame: usize, place: usize, size: usize) -> u8
-    ensures { λ r. ⌜ r ≡ laterRefusal sums frame place size ⌝ }
+// What is refused of a message that passed: 9. There is no test for 10, since "a sum is 0 to 254".
+// Where the longest frame would fit, the message's own need not be measured.
+fn refusal(message: &[u8], framing: Framing, place: usize, size: usize) -> u8
+    requires { ⌜ checkOf (now message) ≡ 0 ⌝ }
+    ensures { λ r. ⌜ r ≡ roomRefusal (length (frameOf framing (now (message .entry)))) place size ⌝ }
 {
-    if sums.one == 0xFF {
-        return 10;
-    }
-    if sums.two == 0xFF {
-        return 10;
-    }
     if size < place {
         return 9;
     }
-    if size - place < frame {
-        return 9;
+    if size - place < LONGEST_FRAME {
+        if size - place < frame_length(message, framing) {
+            return 9;
+        }
     }
     0
 }
@@ -142,18 +127,35 @@ fn put_coded(frame: &mut [u8], place: usize, b: u8, framing: Framing) -> usize
     }
 }
 
-// The bytes of a message so, one after another.
-fn put_message(frame: &mut [u8], place: usize, message: &[u8], framing: Framing) -> usize
+// Where the coded bytes of a message end, and its sums.
+struct Coded {
+    next: usize,
+    sums: Sums,
+}
+
+// The bytes of a message so, one after another, and the sums: "over the length byte and all message
+// bytes", each before it is coded.
+fn put_summed(frame: &mut [u8], place: usize, message: &[u8], framing: Framing) -> Coded
+    requires { ⌜ length (now message) ≤ longestKnown ⌝ }
     requires { ⌜ place + length (coding framing (now message)) ≤ length (now frame) ⌝ }
-    ensures { λ r. ⌜ Put (now (frame .entry)) place (coding framing (now (message .entry))) (now (frame .exit)) r ⌝ }
+    ensures { λ r. ⌜ r .sums ≡ sumsOf (length (now (message .entry)) ∷ now (message .entry)) ⌝ }
+    ensures { λ r. ⌜ Put (now (frame .entry)) place (coding framing (now (message .entry))) (now (frame .exit)) (r .next) ⌝ }
 {
+    let mut one = sums::add(0, message.len() as u8);
+    let mut two = sums::add(0, one);
     let mut next = place;
     let mut i = 0;
     while i < message.len() {
-        next = put_coded(frame, next, message[i], framing);
+        let b = message[i];
+        next = put_coded(frame, next, b, framing);
+        one = sums::add(one, b);
+        two = sums::add(two, one);
         i += 1;
     }
-    next
+    Coded {
+        next,
+        sums: Sums { one, two },
+    }
 }
 
 // "No stop byte", "then stop 0Dh".
@@ -172,16 +174,16 @@ fn put_stop(frame: &mut [u8], place: usize, framing: Framing) -> usize
 
 // "Length byte, message (type byte first), two sum bytes", between start and stop, at the beginning
 // of the part that it is lent. What it says is the frame's length.
-fn put_frame(frame: &mut [u8], message: &[u8], framing: Framing, sums: Sums) -> usize
+fn put_frame(frame: &mut [u8], message: &[u8], framing: Framing) -> usize
     requires { ⌜ length (now message) ≤ longestKnown ⌝ }
-    requires { ⌜ sums ≡ sumsOf (length (now message) ∷ now message) ⌝ }
     requires { ⌜ length (frameOf framing (now message)) ≤ length (now frame) ⌝ }
     ensures { λ r. ⌜ Put (now (frame .entry)) 0 (frameOf framing (now (message .entry))) (now (frame .exit)) r ⌝ }
 {
     frame[0] = standard::start_of(framing);
     let first = put_coded(frame, 1, message.len() as u8, framing);
-    let after = put_message(frame, first, message, framing);
-    let one = put_coded(frame, after, sums.one, framing);
+    let coded = put_summed(frame, first, message, framing);
+    let sums = coded.sums;
+    let one = put_coded(frame, coded.next, sums.one, framing);
     let two = put_coded(frame, one, sums.two, framing);
     put_stop(frame, two, framing)
 }
@@ -202,12 +204,10 @@ pub fn write(message: &[u8], framing: Framing, out: &mut [u8], place: usize) -> 
     if checked != 0 {
         return refused(checked);
     }
-    let measured = measure(message, framing);
-    let sums = measured.sums;
-    let number = refusal(sums, measured.length, place, out.len());
+    let number = refusal(message, framing, place, out.len());
     if number != 0 {
         return refused(number);
     }
-    let length = put_frame(&mut out[place..], message, framing, sums);
+    let length = put_frame(&mut out[place..], message, framing);
     Written { number: 0, length }
 }

@@ -21,17 +21,17 @@ abbrev f : tie.Start → Framing
 f s = s .args .framing
 
 fits : (s : tie.Start) → pieces.Fits (f s) (m s) (length (s .args .frame .now))
-fits s = pieces.pieces-fit (f s) (m s) (length (s .args .frame .now)) (s .pre .1 .1)
+fits s = pieces.pieces-fit (f s) (m s) (length (s .args .frame .now)) (s .pre .1)
 
 -- the beginning, from behind each piece
 abbrev from-length : tie.After-put-coded → tie.Start
 from-length c = c .before .before .before .before .before
 
-abbrev from-message : tie.After-put-message → tie.Start
+abbrev from-message : tie.After-put-summed → tie.Start
 from-message c = from-length (c .before .before .before .before)
 
 abbrev from-one : tie.After-put-coded2 → tie.Start
-from-one c = from-message (c .before .before .before .before)
+from-one c = from-message (c .before .before .before .before .before)
 
 abbrev from-two : tie.After-put-coded3 → tie.Start
 from-two c = from-one (c .before .before .before .before)
@@ -45,24 +45,25 @@ length-stands : (c : tie.After-put-coded)
     (c .put-coded .result)
 length-stands c = rw (← c .before .before .start-of .ensures) (put-then (put-one _ 0 _) (c .put-coded .ensures))
 
-message-stands : (c : tie.After-put-message)
-    → Stands (from-message c) (pieces.toMessage (f (from-message c)) (m (from-message c))) (c .put-message .last .0)
-    (c .put-message .result)
-message-stands c = put-then (length-stands (c .before .before .before .before)) (c .put-message .ensures)
+message-stands : (c : tie.After-put-summed)
+    → Stands (from-message c) (pieces.toMessage (f (from-message c)) (m (from-message c))) (c .put-summed .last .0)
+    (c .put-summed .result .next)
+message-stands c = put-then (length-stands (c .before .before .before .before)) (c .put-summed .ensures .1)
 
 one-stands : (c : tie.After-put-coded2)
     → Stands (from-one c) (pieces.toOne (f (from-one c)) (m (from-one c))) (c .put-coded2 .last .0)
     (c .put-coded2 .result)
 one-stands c =
-    put-then (message-stands (c .before .before .before .before))
-    (rw (from-one c .pre .1 .0) at (c .put-coded2 .ensures))
+    let put = c .before .before .before .before .before in
+    put-then (message-stands put) (rw (put .put-summed .ensures .0) at (c .put-coded2 .ensures))
 
 two-stands : (c : tie.After-put-coded3)
     → Stands (from-two c) (pieces.toTwo (f (from-two c)) (m (from-two c))) (c .put-coded3 .last .0)
     (c .put-coded3 .result)
 two-stands c =
-    put-then (one-stands (c .before .before .before .before))
-    (rw (from-two c .pre .1 .0) at (c .put-coded3 .ensures))
+    let put = c .before .before .before .before in
+    let sums = put .before .before .before .before .before .put-summed .ensures .0 in
+    put-then (one-stands put) (rw sums at (c .put-coded3 .ensures))
 
 start-of-requires : tie.Need-start-of-requires
 start-of-requires c κs = search needs
@@ -78,24 +79,24 @@ put-coded-requires c κs =
     let room = fits (c .before .before .before .before) .size in
     simp length-set (omega (arith, room))
 
-put-message-requires : tie.Need-put-message-requires
-put-message-requires c κs =
+put-summed-requires : tie.Need-put-summed-requires
+put-summed-requires c κs =
     let put = c .before .before .before in
     let s = from-length put in
-    pieces.next-fits (coding (f s) (m s)) (length-stands put) (fits s .message)
+    (s .pre .0, pieces.next-fits (coding (f s) (m s)) (length-stands put) (fits s .message))
 
 put-coded-requires-2 : tie.Need-put-coded-requires-2
 put-coded-requires-2 c κs =
-    let put = c .before .before .before in
+    let put = c .before .before .before .before in
     let s = from-message put in
-    rw (s .pre .1 .0)
+    rw (put .put-summed .ensures .0)
     (pieces.next-fits (coded (f s) (pieces.one (f s) (m s))) (message-stands put) (fits s .sum1))
 
 put-coded-requires-3 : tie.Need-put-coded-requires-3
 put-coded-requires-3 c κs =
     let put = c .before .before .before in
     let s = from-one put in
-    rw (s .pre .1 .0)
+    rw (put .before .before .before .before .before .put-summed .ensures .0)
     (pieces.next-fits (coded (f s) (pieces.two (f s) (m s))) (one-stands put) (fits s .sum2))
 
 put-stop-requires : tie.Need-put-stop-requires
@@ -125,7 +126,7 @@ put-frame-spec =
     slice-write-frame
     cast-put-coded
     put-coded-requires
-    put-message-requires
+    put-summed-requires
     put-coded-requires-2
     put-coded-requires-3
     put-stop-requires

@@ -1,5 +1,5 @@
--- `writer::write` meets its contract: what was measured is the frame's, both refusals are the definition's, and the
--- frame is put into the part that is lent. Assumes nothing.
+-- `writer::write` meets its contract: both refusals are the definition's, and the frame is put into the part that is
+-- lent. Assumes nothing.
 use Prim.Native.Nat.{ℕ, _+_, _-_, _≤_}
 use native.Mathlib.Omega.{arith}
 use mathlib.Core.Path.{_≡_, sym, ap, _∙_}
@@ -14,7 +14,7 @@ use Rattle.standard.specs.Writer.{writeRefusal}
 use Rattle.standard.proofs.Put.{mid-laid}
 use Rattle.writer.proofs.Fit.{fit}
 use Rattle.writer.proofs.Lengths.{good-few}
-use Rattle.writer.proofs.Answers.{first-refusal, later-refusal, told-refused, told-written}
+use Rattle.writer.proofs.Answers.{first-refusal, last-refusal, told-refused, told-written}
 use Rattle.writer.proofs.write.Statement.{statement}
 use Rattle.writer.proofs.write.Tie as tie
 
@@ -32,11 +32,8 @@ out s = s .args .out .now
 abbrev from-passed : tie.Else1 → tie.Start
 from-passed c = c .before .before .before .before
 
-abbrev from-measure : tie.After-measure → tie.Start
-from-measure c = from-passed (c .before)
-
 abbrev from-refusal : tie.After-refusal → tie.Start
-from-refusal c = from-measure (c .before .before)
+from-refusal c = from-passed (c .before)
 
 -- the message passed
 good : (c : tie.Else1) → checkOf (m (from-passed c)) ≡ 0
@@ -57,17 +54,13 @@ returns c =
     rw (c .refused .ensures)
     (told-refused (m s) (f s) (out s) (s .args .place) (c .before .before .check .result) (first ∙ sym is) bad)
 
-measure-requires : tie.Need-measure-requires
-measure-requires c κs = good-few (m (from-passed c)) (good c)
+refusal-requires : tie.Need-refusal-requires
+refusal-requires c κs = good c
 
 -- the later refusal is the definition's
 told : (c : tie.After-refusal)
     → let s = from-refusal c in writeRefusal (m s) (f s) (out s) (s .args .place) ≡ c .refusal .result
-told c =
-    let measure = c .before .before in
-    later-refusal _ _ _ _ (measure .measure .result .sums) (measure .measure .result .length) (good (measure .before))
-    (measure .measure .ensures .0) (measure .measure .ensures .1)
-    ∙ sym (c .refusal .ensures)
+told c = last-refusal _ _ _ _ (good (c .before)) ∙ sym (c .refusal .ensures)
 
 -- the frame fits
 record Room (s : tie.Start) : Type 0 where
@@ -76,12 +69,8 @@ record Room (s : tie.Start) : Type 0 where
 
 room : (c : tie.Else2) → Room (from-refusal (c .before))
 room c =
-    let measure = c .before .before .before in
-    let told = fit (measure .measure .result .sums) _ _ _ (sym (c .before .refusal .ensures) ∙ c .if2 .left) in
-    record { place = told .0; frame = rw (← measure .measure .ensures .1) (told .1) }
-
-refusal-requires : tie.Need-refusal-requires
-refusal-requires c κs = search needs
+    let told = fit _ _ _ (sym (c .before .refusal .ensures) ∙ c .if2 .left) in
+    record { place = told .0; frame = told .1 }
 
 refused-requires-2 : tie.Need-refused-requires-2
 refused-requires-2 c κs = search needs
@@ -104,10 +93,8 @@ part-put-frame-end c = search needs
 put-frame-requires : tie.Need-put-frame-requires
 put-frame-requires c κs =
     let r = room (c .before) in
-    let measure = c .before .before .before .before in (
-      good-few (m (from-measure measure)) (good (measure .before)),
-      (measure .measure .ensures .0, simp (length-take, length-drop) (omega arith)),
-    )
+    let passed = c .before .before .before in
+    (good-few (m (from-passed passed)) (good passed), simp (length-take, length-drop) (omega arith))
 
 same-length : tie.Need-same-length
 same-length c = search needs
@@ -132,7 +119,6 @@ write-spec =
     check-requires
     refused-requires
     returns
-    measure-requires
     refusal-requires
     refused-requires-2
     returns-2
