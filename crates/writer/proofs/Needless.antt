@@ -1,5 +1,6 @@
--- The condition of the second round trip is needed, of every part: one with a needless escape is never what is written.
--- And there are such parts: card 1 with its 1Dh sent as 7D 3D is read as that message at its last byte. Assumes nothing.
+-- The condition of the second round trip is needed, of every part: one with a needless escape is never what is
+-- written. And there are such parts: card 1 with its 1Dh sent as 7D 3D is read as that message at its last byte.
+-- Assumes nothing.
 use Prim.Native.Nat.{ℕ}
 use native.Mathlib.Omega.{arith}
 use mathlib.Core.Path.{_≡_, refl}
@@ -27,8 +28,8 @@ needless-differs f after m h e =
     let z : _≡_ {A = ℕ} 0 1 = cc in
     omega arith
 
--- EXACTLY THESE ARE WRITTEN AGAIN: of the parts up to their deciding byte that hand out m, those whose only escapes were
--- needed
+-- EXACTLY THESE ARE WRITTEN AGAIN: of the parts up to their deciding byte that hand out m, those whose only escapes
+-- were needed
 pub written-again : (f : Framing) (front : List ℕ) (last : ℕ) (m : List ℕ) → HandsOut f front last m
     → (escapesNeeded f (front ++ (last ∷ [])) ≡ true → frameOf f m ≡ startOf f ∷ front ++ (last ∷ []))
     × (frameOf f m ≡ startOf f ∷ front ++ (last ∷ []) → escapesNeeded f (front ++ (last ∷ [])) ≡ true)

@@ -1,5 +1,5 @@
--- Demand 2 over the promise of `write`: what it puts into the buffer is handed out again, and what was read is put there
--- byte for byte exactly if its only escapes were needed. Assumes nothing.
+-- Demand 2 over the promise of `write`: what it puts into the buffer is handed out again, and what was read is put
+-- there byte for byte exactly if its only escapes were needed. Assumes nothing.
 use Prim.Native.Nat.{ℕ, _+_, _-_, _≤_}
 use mathlib.Core.Path.{_≡_, refl, sym, ap, _∙_}
 use mathlib.Core.Bool.{Bool, true, false}

@@ -1,6 +1,6 @@
--- Demand 2, both round trips, each over both framings and over the judgement of a stream. Writing and then reading hands
--- out the message, among any other bytes. Reading and then writing gives the part again exactly if its only escapes were
--- those for 7Eh and 7Dh. Assumes nothing.
+-- Demand 2, both round trips, each over both framings and over the judgement of a stream. Writing and then reading
+-- hands out the message, among any other bytes. Reading and then writing gives the part again exactly if its only
+-- escapes were those for 7Eh and 7Dh. Assumes nothing.
 use Prim.Native.Nat.{ℕ, zero, suc, _+_, _<_}
 use native.Mathlib.Omega.{arith}
 use mathlib.Core.Path.{_≡_, refl, sym, ap, ap₂, _∙_, subst}
@@ -108,8 +108,8 @@ nothing-behind f front last m (x ∷ tail) u h b e =
     let z : _≡_ {A = ℕ} 0 1 = cc in
     absurd (omega arith)
 
--- READING, THEN WRITING: a part up to its deciding byte that hands out m, and whose escapes were needed, is the frame of
--- m
+-- READING, THEN WRITING: a part up to its deciding byte that hands out m, and whose escapes were needed, is the frame
+-- of m
 pub read-then-write : (f : Framing) (front : List ℕ) (last : ℕ) (m : List ℕ) → HandsOut f front last m
     → escapesNeeded f (front ++ (last ∷ [])) ≡ true → frameOf f m ≡ startOf f ∷ front ++ (last ∷ [])
 unfolding frameOf

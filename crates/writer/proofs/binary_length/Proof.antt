@@ -1,5 +1,5 @@
--- `writer::binary_length` meets its contract. The loop's invariant: the sums are those of the length byte and of the bytes
--- passed, and so is the size. Assumes nothing.
+-- `writer::binary_length` meets its contract. The loop's invariant: the sums are those of the length byte and of the
+-- bytes passed, and so is the size. Assumes nothing.
 use Prim.Native.Nat.{ℕ, _+_, _-_, _*_, _≤_}
 use native.Mathlib.Omega.{arith}
 use mathlib.Core.Path.{_≡_, ap, _∙_}

@@ -28,4 +28,6 @@ returns-2 : tie.Need-returns-2
 returns-2 c = rw (c .enum-told2 .given .1) (sym (ascii-size _))
 
 pub frame-length-spec : {M : Type 1} → statement M
-frame-length-spec = tie.close (tie.spec enum-told binary-length-requires enum-told-2 mul-result add-result returns returns-2)
+frame-length-spec =
+    tie.close
+    (tie.spec enum-told binary-length-requires enum-told-2 mul-result add-result returns returns-2)
