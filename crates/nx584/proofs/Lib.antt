@@ -1,2 +1,3 @@
 pub mod InC
 pub mod Unique
+pub mod FreshReader

@@ -1,5 +1,5 @@
 -- Laws of the two framings, each over both: what was coded is recovered, whatever follows it; what is coded holds
--- neither start nor stop; and how long a frame is. Assumes nothing.
+-- neither start nor stop. Assumes nothing.
 use Prim.Native.Nat.{ℕ, zero, suc, _+_, _-_, _*_, _/_, _%_, _≤_, _<_}
 use native.Mathlib.Nat.{div-add-mod'}
 use native.Mathlib.Numerals.{add-one}
@@ -16,9 +16,8 @@ use borrow.Author.Tests.{eqb-true, eqb-false, ltb-true, ltb-false, leb-true, lt-
 use Rattle.standard.specs.declared.Framing.{Framing}
 use Rattle.standard.specs.declared.Framing.the-variants.{Binary, Ascii}
 pub use Rattle.standard.specs.Words.{Bytes}
-pub use Rattle.standard.specs.Framing.{mostOf}
 use Rattle.standard.specs.Sums.{sumsOf}
-use Rattle.standard.specs.Messages.{among, known, lengthFor, checkOf}
+use Rattle.standard.specs.Messages.{among, checkOf}
 use Rattle.standard.specs.Framing.{startOf, stopOf, stuffed, digit, twoDigits, coded, coding, bodyOf, frameOf}
 use Rattle.standard.specs.Framing.{Recovered, also, unstuff, valueOf, andDigit, digitsOf, pairs, recovered}
 use Rattle.standard.proofs.Sum.{sums-small}
@@ -235,51 +234,6 @@ pub no-mark : (f : Framing) (bs : List ℕ) (x : ℕ) → Mark f x → among x (
 unfolding coding flatMap
 no-mark f [] x h = refl
 no-mark f (b ∷ bs) x h = among-append x (coded f b) (coding f bs) ∙ ap₂ _||_ (no-mark-one f b x h) (no-mark f bs x h)
-
--- ---- how long a frame is
-
-pub frame-length : (f : Framing) (m : List ℕ)
-    → length (frameOf f m) ≡ suc (length (coding f (bodyOf m)) + length (stopOf f))
-unfolding frameOf
-frame-length f m = ap suc (length-append (coding f (bodyOf m)) (stopOf f))
-
--- a byte that is sent as it is
-Plain : ℕ → Type 0
-Plain b = (b ≡ 0x7E → ⊥) × (b ≡ 0x7D → ⊥)
-
--- a number is recognised only with bit 6 clear, and 7Eh and 7Dh have it set
-type-plain : (t : ℕ) → (lengthFor t ≡ 0 → ⊥) → Plain t
-unfolding lengthFor Plain
-type-plain t h = (λ e. h (ap lengthFor e), λ e. h (ap lengthFor e))
-
-stuffed-plain : (b : ℕ) → Plain b → stuffed b ≡ b ∷ []
-unfolding Plain
-stuffed-plain b h = rw (ne-eqb b 0x7E (h .0), ne-eqb b 0x7D (h .1))
-
--- room for the longest
-pub most-few : (f : Framing) → mostOf f ≤ 44
-most-few Binary = lit≤ tt
-most-few Ascii = lit≤ tt
-
--- beside start, length, type byte and stop there are at most 17 bytes and two sums, of two characters each
-room : (f : Framing) (L t : ℕ) → Plain L → Plain t
-    → length (coded f L) + length (coded f t) + length (stopOf f) + 39 ≤ mostOf f
-room Binary L t p q = rw (stuffed-plain L p, stuffed-plain t q) (lit≤ tt)
-room Ascii L t p q = lit≤ tt
-
--- HOW LONG A WRITTEN FRAME IS
-pub frame-few : (f : Framing) (m : List ℕ) → checkOf m ≡ 0 → length (frameOf f m) ≤ mostOf f
-unfolding coding flatMap Plain
-frame-few f [] h = let some = passed [] h .sized .some in absurd (omega arith)
-frame-few f (t ∷ m) h =
-    let good = passed (t ∷ m) h in
-    let L = length (t ∷ m) in
-    let few : L ≤ 18 = good .sized .few in
-    let rest = m ++ (sumsOf (L ∷ t ∷ m) .one ∷ sumsOf (L ∷ t ∷ m) .two ∷ []) in
-    let heads = room f L t (λ e. omega arith, λ e. omega arith) (type-plain t (good .known)) in
-    let tail = coding-few f rest in
-    let size : length rest ≡ length m + 2 = length-append m (sumsOf (L ∷ t ∷ m) .one ∷ sumsOf (L ∷ t ∷ m) .two ∷ []) in
-    rw (frame-length, length-append, length-append) (omega arith)
 
 -- ---- coding again what was recovered
 

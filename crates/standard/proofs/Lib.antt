@@ -14,3 +14,4 @@ pub mod Shares
 pub mod Questions
 pub mod Applied
 pub mod Report
+pub mod Unique

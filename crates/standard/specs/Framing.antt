@@ -49,11 +49,6 @@ bodyOf m = length m ∷ m ++ (sumsOf (length m ∷ m) .one ∷ sumsOf (length m 
 unfoldable pub frameOf : Framing → List ℕ → List ℕ
 frameOf f m = startOf f ∷ coding f (bodyOf m) ++ stopOf f
 
--- "A written binary frame has at most 41 bytes, an ASCII frame at most 44"
-abbrev pub mostOf : Framing → ℕ
-mostOf Binary = 41
-mostOf Ascii = 44
-
 -- ---- recovering
 
 -- the bytes recovered from those after a start, and the verdict of the byte at which recovering stops, if one stops it

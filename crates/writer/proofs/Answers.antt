@@ -5,14 +5,13 @@ use mathlib.Core.List.{List, [], _∷_}
 use lib.ListN.{length}
 use borrow.Author.Tests.{eq-eqb, ne-eqb}
 use Rattle.standard.specs.declared.Framing.{Framing}
-use Rattle.standard.specs.declared.Sums.{Sums}
 use Rattle.standard.specs.Words.{laid}
-use Rattle.standard.specs.Sums.{sumsOf}
 use Rattle.standard.specs.Messages.{checkOf}
 use Rattle.standard.specs.Framing.{frameOf}
 use Rattle.standard.specs.Writer.{sumIsFF, noRoom, writeRefusal, writtenOf, afterWrite, Wrote}
+use Rattle.standard.proofs.Sum.{never-ff}
 use Rattle.standard.proofs.Messages.{check-then}
-use Rattle.writer.specs.Refusing.{refusing, laterRefusal}
+use Rattle.writer.specs.Refusing.{refusing, roomRefusal}
 
 module _ (m : List ℕ) (f : Framing) (out : List ℕ) (place : ℕ) where
   -- the message's own refusal comes first
@@ -22,12 +21,12 @@ module _ (m : List ℕ) (f : Framing) (out : List ℕ) (place : ℕ) where
       check-then m ((sumIsFF m, 10) ∷ (noRoom (length (frameOf f m)) place (length out), 9) ∷ [])
       ∙ rw (ne-eqb (checkOf m) 0 h)
 
-  pub later-refusal : (sums : Sums) (n : ℕ) → checkOf m ≡ 0 → sums ≡ sumsOf (length m ∷ m) → n ≡ length (frameOf f m)
-      → writeRefusal m f out place ≡ laterRefusal sums n place (length out)
+  -- then only the room is left: no sum byte is FFh
+  pub last-refusal : checkOf m ≡ 0 → writeRefusal m f out place ≡ roomRefusal (length (frameOf f m)) place (length out)
   unfolding writeRefusal
-  later-refusal sums n h e k =
+  last-refusal h =
       check-then m ((sumIsFF m, 10) ∷ (noRoom (length (frameOf f m)) place (length out), 9) ∷ [])
-      ∙ rw (eq-eqb (checkOf m) 0 h, e, k)
+      ∙ rw (eq-eqb (checkOf m) 0 h, never-ff m)
 
   -- a refusal says length 0 and stores nothing
   pub told-refused : (n : ℕ) → writeRefusal m f out place ≡ n → (n ≡ 0 → ⊥) → Wrote m f out place (refusing n) out
@@ -35,7 +34,7 @@ module _ (m : List ℕ) (f : Framing) (out : List ℕ) (place : ℕ) where
   told-refused n e h = record { says = rw (e, ne-eqb n 0 h); leaves = rw (e, ne-eqb n 0 h) }
 
   -- the frame is laid over the buffer, and its length said
-  pub told-written : (n : ℕ) (after : List ℕ) → writeRefusal m f out place ≡ 0 → n ≡ length (frameOf f m) → after ≡ laid out place (frameOf f m)
-      → Wrote m f out place (record { number = 0; length = n }) after
+  pub told-written : (n : ℕ) (after : List ℕ) → writeRefusal m f out place ≡ 0 → n ≡ length (frameOf f m)
+      → after ≡ laid out place (frameOf f m) → Wrote m f out place (record { number = 0; length = n }) after
   unfolding writtenOf afterWrite
   told-written n after e k l = record { says = rw (e, k); leaves = rw e l }

@@ -6,10 +6,9 @@ use mathlib.Core.Bool.{Bool, true, false, _||_}
 use mathlib.Core.List.{[], _∷_}
 use lib.Dec.{eqb, ltb}
 use borrow.Author.Tests.{lt-ltb, le-ltb, ltb-false}
-use Rattle.standard.specs.declared.Sums.{Sums}
 use Rattle.standard.specs.Writer.{noRoom}
 use Rattle.standard.proofs.Judge.{first-none}
-use Rattle.writer.specs.Refusing.{laterRefusal}
+use Rattle.writer.specs.Refusing.{roomRefusal}
 
 or-true : (t : Bool) → (t || true) ≡ true
 or-true true = refl
@@ -31,8 +30,8 @@ short frame place size h = rw (lt-ltb (size - place) frame h)
 pub fits : (frame place size : ℕ) → place ≤ size → frame ≤ size - place → noRoom frame place size ≡ false
 fits frame place size h k = rw (le-ltb size place h, le-ltb (size - place) frame k)
 
-pub fit : (sums : Sums) (frame place size : ℕ) → laterRefusal sums frame place size ≡ 0 → (place ≤ size) × (frame ≤ size - place)
-fit sums frame place size e =
-    let later = first-none (eqb (sums .one) 0xFF || eqb (sums .two) 0xFF) 10 ((noRoom frame place size, 9) ∷ []) (λ z. omega arith) e .1 in
-    let told = neither (ltb (size - place) frame) (ltb size place) (first-none (noRoom frame place size) 9 [] (λ z. omega arith) later .0) in
+pub fit : (frame place size : ℕ) → roomRefusal frame place size ≡ 0 → (place ≤ size) × (frame ≤ size - place)
+fit frame place size e =
+    let none = first-none (noRoom frame place size) 9 [] (λ z. omega arith) e .0 in
+    let told = neither (ltb (size - place) frame) (ltb size place) none in
     (ltb-false size place (told .1), ltb-false (size - place) frame (told .0))

@@ -1,9 +1,9 @@
--- Demand 2 over the promise of `write`: what it puts into the buffer is handed out again, and what was read is put there byte for byte.
--- Assumes nothing.
+-- Demand 2 over the promise of `write`: what it puts into the buffer is handed out again, and what was read is put
+-- there byte for byte exactly if its only escapes were needed. Assumes nothing.
 use Prim.Native.Nat.{ℕ, _+_, _-_, _≤_}
 use mathlib.Core.Path.{_≡_, refl, sym, ap, _∙_}
-use mathlib.Core.Bool.{Bool, true, false, cond}
-use mathlib.Core.List.{List, [], _∷_, _++_, append-assoc}
+use mathlib.Core.Bool.{Bool, true, false}
+use mathlib.Core.List.{List, [], _∷_, _++_, append-assoc, cons≢nil}
 use lib.Dec.{eqb}
 use lib.ListN.{length, take, drop}
 use lib.Seq.{take-append-seam, drop-at, length-take-le}
@@ -11,24 +11,21 @@ use borrow.Author.Tests.{eqb-true, eqb-false}
 use Rattle.standard.specs.declared.Framing.{Framing}
 use Rattle.standard.specs.declared.Written.{Written}
 use Rattle.standard.specs.Words.{laid}
-use Rattle.standard.specs.Sums.{sumsOf}
 use Rattle.standard.specs.Messages.{checkOf}
 use Rattle.standard.specs.Framing.{startOf, frameOf}
 use Rattle.standard.specs.Judge.{handing}
 use Rattle.standard.specs.Stream.{handedOf}
-use Rattle.standard.specs.Writer.{sumIsFF, noRoom, writeRefusal, writtenOf, afterWrite, Wrote}
-use Rattle.standard.proofs.Sum.{never-ff}
-use Rattle.standard.proofs.Messages.{check-then}
+use Rattle.standard.specs.Writer.{writeRefusal, writtenOf, afterWrite, Wrote}
 use Rattle.standard.proofs.Framings.{Bytes}
 use Rattle.standard.proofs.Judge.{good-check}
-use Rattle.writer.specs.Refusing.{laterRefusal}
 use Rattle.writer.specs.RoundTrip.{escapesNeeded, HandsOut}
 use Rattle.writer.proofs.Fit.{fits, fit}
-use Rattle.writer.proofs.Answers.{later-refusal}
-use Rattle.writer.proofs.RoundTrip.{write-then-read-one, read-then-write}
+use Rattle.writer.proofs.Answers.{first-refusal, last-refusal}
+use Rattle.writer.proofs.RoundTrip.{write-then-read-one, read-then-write, written-needed}
 
 -- what was laid from a place on stands there
-laid-there : (out : List ℕ) (place : ℕ) (part : List ℕ) → place ≤ length out → take (length part) (drop place (laid out place part)) ≡ part
+laid-there : (out : List ℕ) (place : ℕ) (part : List ℕ) → place ≤ length out
+    → take (length part) (drop place (laid out place part)) ≡ part
 laid-there out place part h =
     let rest = drop (place + length part) out in
     ap (λ (l : List ℕ). take (length part) (drop place l)) (append-assoc (take place out) part rest)
@@ -47,20 +44,20 @@ module _ (m : List ℕ) (f : Framing) (out : List ℕ) (place : ℕ) where
     room : length (frameOf f m) ≤ length out - place
 
   accepted : writeRefusal m f out place ≡ 0 → Accepted
-  unfolding writeRefusal
-  accepted e =
-      go (eqb (checkOf m) 0) refl
-      (sym (check-then m ((sumIsFF m, 10) ∷ (noRoom (length (frameOf f m)) place (length out), 9) ∷ [])) ∙ e)
+  accepted e = go (eqb (checkOf m) 0) refl
     where
-      go : (t : Bool) → eqb (checkOf m) 0 ≡ t
-          → cond t (laterRefusal (sumsOf (length m ∷ m)) (length (frameOf f m)) place (length out)) (checkOf m) ≡ 0 → Accepted
-      go true k q =
-          let told = fit (sumsOf (length m ∷ m)) (length (frameOf f m)) place (length out) q in
-          record { check = eqb-true (checkOf m) 0 k; within = told .0; room = told .1 }
-      go false k q = absurd (eqb-false (checkOf m) 0 k q)
+      go : (t : Bool) → eqb (checkOf m) 0 ≡ t → Accepted
+      go true k =
+          let check = eqb-true (checkOf m) 0 k in
+          let told = fit (length (frameOf f m)) place (length out) (sym (last-refusal m f out place check) ∙ e) in
+          record { check = check; within = told .0; room = told .1 }
+      go false k =
+          let bad = eqb-false (checkOf m) 0 k in
+          absurd (bad (sym (first-refusal m f out place bad) ∙ e))
 
   -- a frame that was not refused stands at its place
-  put-frame : (a : Written) (after : List ℕ) → Wrote m f out place a after → writeRefusal m f out place ≡ 0 → place ≤ length out → put a after ≡ frameOf f m
+  put-frame : (a : Written) (after : List ℕ) → Wrote m f out place a after → writeRefusal m f out place ≡ 0
+      → place ≤ length out → put a after ≡ frameOf f m
   unfolding writtenOf afterWrite
   put-frame a after w e h =
       let long : a .length ≡ length (frameOf f m) = ap (λ (x : Written). x .length) (w .says) ∙ rw e in
@@ -70,7 +67,8 @@ module _ (m : List ℕ) (f : Framing) (out : List ℕ) (place : ℕ) where
       ∙ laid-there out place (frameOf f m) h
 
   -- WHAT IS WRITTEN IS READ: where the answer is 0, the bytes that it speaks of hand out the message
-  pub written-read : (a : Written) (after : List ℕ) → Bytes m → Wrote m f out place a after → a .number ≡ 0 → handedOf f (put a after) ≡ handing 0 m ∷ []
+  pub written-read : (a : Written) (after : List ℕ) → Bytes m → Wrote m f out place a after → a .number ≡ 0
+      → handedOf f (put a after) ≡ handing 0 m ∷ []
   unfolding writtenOf
   written-read a after b w z =
       let none : writeRefusal m f out place ≡ 0 = sym (ap (λ (x : Written). x .number) (w .says)) ∙ z in
@@ -78,14 +76,30 @@ module _ (m : List ℕ) (f : Framing) (out : List ℕ) (place : ℕ) where
       ap (handedOf f) (put-frame a after w none (good .within)) ∙ write-then-read-one f m (good .check) b
 
   -- WHAT IS READ IS WRITTEN: a part whose escapes were needed is put again byte for byte, wherever it fits
-  pub read-written : (front : List ℕ) (last : ℕ) → HandsOut f front last m → escapesNeeded f (front ++ (last ∷ [])) ≡ true
+  pub read-written : (front : List ℕ) (last : ℕ) → HandsOut f front last m
+      → escapesNeeded f (front ++ (last ∷ [])) ≡ true
       → place ≤ length out → length (startOf f ∷ front ++ (last ∷ [])) ≤ length out - place
-      → (a : Written) (after : List ℕ) → Wrote m f out place a after → (a .number ≡ 0) × (put a after ≡ startOf f ∷ front ++ (last ∷ []))
+      → (a : Written) (after : List ℕ) → Wrote m f out place a after
+      → (a .number ≡ 0) × (put a after ≡ startOf f ∷ front ++ (last ∷ []))
   unfolding writtenOf
   read-written front last r n h k a after w =
       let same = read-then-write f front last m r n in
       let room : length (frameOf f m) ≤ length out - place = rw same k in
       let none : writeRefusal m f out place ≡ 0 =
-      later-refusal m f out place (sumsOf (length m ∷ m)) (length (frameOf f m)) (good-check f (front ++ (last ∷ [])) m (r .said)) refl refl
-      ∙ rw (never-ff m, fits (length (frameOf f m)) place (length out) h room) in
+      last-refusal m f out place (good-check f (front ++ (last ∷ [])) m (r .said))
+      ∙ rw (fits (length (frameOf f m)) place (length out) h room) in
       (ap (λ (x : Written). x .number) (w .says) ∙ none, put-frame a after w none h ∙ same)
+
+  -- AND NOTHING ELSE IS: where the bytes that an answer speaks of are a part, its only escapes were needed
+  pub needless-not-written : (after : List ℕ) (a : Written) (left : List ℕ) → Wrote m f out place a left
+      → put a left ≡ startOf f ∷ after → escapesNeeded f after ≡ true
+  unfolding writtenOf
+  needless-not-written after a left w e = go (eqb (writeRefusal m f out place) 0) refl
+    where
+      go : (t : Bool) → eqb (writeRefusal m f out place) 0 ≡ t → escapesNeeded f after ≡ true
+      go true k =
+          let none = eqb-true (writeRefusal m f out place) 0 k in
+          written-needed f after m (sym (put-frame a left w none (accepted none .within)) ∙ e)
+      go false k =
+          let short : a .length ≡ 0 = ap (λ (x : Written). x .length) (w .says) ∙ rw k in
+          absurd (cons≢nil (sym e ∙ ap (λ (n : ℕ). take n (drop place left)) short))

@@ -1,5 +1,6 @@
--- Demand 2, both round trips, each over both framings and over the judgement of a stream. Writing and then reading hands out the message,
--- among any other bytes. Reading and then writing gives the part again, where its only escapes were those for 7Eh and 7Dh. Assumes nothing.
+-- Demand 2, both round trips, each over both framings and over the judgement of a stream. Writing and then reading
+-- hands out the message, among any other bytes. Reading and then writing gives the part again exactly if its only
+-- escapes were those for 7Eh and 7Dh. Assumes nothing.
 use Prim.Native.Nat.{ℕ, zero, suc, _+_, _<_}
 use native.Mathlib.Omega.{arith}
 use mathlib.Core.Path.{_≡_, refl, sym, ap, ap₂, _∙_, subst}
@@ -17,7 +18,9 @@ use Rattle.standard.specs.Framing.{startOf, stopOf, stuffed, coding, bodyOf, fr
 use Rattle.standard.specs.Judge.{decided, unfinished, handing, judge}
 use Rattle.standard.specs.Stream.{handedOf}
 use Rattle.standard.proofs.Messages.{both-true}
-use Rattle.standard.proofs.Framings.{Sent, start-escaped, escape-escaped, as-it-is, sent, Bytes, bytes-none, bytes-cons, bytes-append, body-bytes, coding-bytes, Again, again-none, again-one, pairs-again}
+use Rattle.standard.proofs.Framings.{Sent, start-escaped, escape-escaped, as-it-is, sent}
+use Rattle.standard.proofs.Framings.{Bytes, bytes-none, bytes-cons, bytes-append, body-bytes, coding-bytes}
+use Rattle.standard.proofs.Framings.{Again, again-none, again-one, pairs-again}
 use Rattle.standard.proofs.Judge.{other-head, judge-frame, good-begins, last-decides}
 use Rattle.standard.proofs.Stream.{no-start, handed-frame, handed-amid}
 use Rattle.writer.specs.RoundTrip.{onlyNeeded, escapesNeeded, HandsOut}
@@ -28,14 +31,15 @@ use Rattle.writer.specs.RoundTrip.{onlyNeeded, escapesNeeded, HandsOut}
 abbrev inside : Framing → List ℕ → List ℕ
 inside f m = coding f (bodyOf m) ++ stopOf f
 
--- WRITING, THEN READING: wherever a good message's frame stands in a stream, the message is handed out, after what the frame's start byte
--- ends and before what follows
+-- WRITING, THEN READING: wherever a good message's frame stands in a stream, the message is handed out, after what the
+-- frame's start byte ends and before what follows
 pub write-then-read : (f : Framing) (m p q : List ℕ) → checkOf m ≡ 0 → Bytes m
     → handedOf f (p ++ (frameOf f m ++ q)) ≡ handedOf f (p ++ (startOf f ∷ [])) ++ (handing 0 m ∷ handedOf f q)
 write-then-read f m p q h b = handed-amid f p m q h b
 
 -- and so of a frame alone
-pub write-then-read-one : (f : Framing) (m : List ℕ) → checkOf m ≡ 0 → Bytes m → handedOf f (frameOf f m) ≡ handing 0 m ∷ []
+pub write-then-read-one : (f : Framing) (m : List ℕ) → checkOf m ≡ 0 → Bytes m
+    → handedOf f (frameOf f m) ≡ handing 0 m ∷ []
 write-then-read-one f m h b = ap (handedOf f) (sym (append-nil (frameOf f m))) ∙ handed-frame f m [] h b
 
 -- ---- reading, then writing
@@ -46,33 +50,41 @@ escape true = 0x7D ∷ []
 escape false = []
 
 -- behind an escape that was needed
-escaped-again : (b : ℕ) (bs p : List ℕ) → among b (0x5E ∷ 0x5D ∷ []) ≡ true → Again Binary bs p → Again Binary (bitXor b 0x20 ∷ bs) (0x7D ∷ b ∷ p)
+escaped-again : (b : ℕ) (bs p : List ℕ) → among b (0x5E ∷ 0x5D ∷ []) ≡ true → Again Binary bs p
+    → Again Binary (bitXor b 0x20 ∷ bs) (0x7D ∷ b ∷ p)
 escaped-again b bs p h a = go (eqb b 0x5E) refl (eqb b 0x5D) refl h
   where
-    go : (s : Bool) → eqb b 0x5E ≡ s → (t : Bool) → eqb b 0x5D ≡ t → (s || (t || false)) ≡ true → Again Binary (bitXor b 0x20 ∷ bs) (0x7D ∷ b ∷ p)
+    go : (s : Bool) → eqb b 0x5E ≡ s → (t : Bool) → eqb b 0x5D ≡ t → (s || (t || false)) ≡ true
+        → Again Binary (bitXor b 0x20 ∷ bs) (0x7D ∷ b ∷ p)
     go true e t k q = rw (eqb-true b 0x5E e) (again-one Binary 0x7E bs p (omega arith) a)
     go false e true k q = rw (eqb-true b 0x5D k) (again-one Binary 0x7D bs p (omega arith) a)
     go false e false k q = absurd (let z : _≡_ {A = ℕ} 0 1 = cc in omega arith)
 
-plain-again : (b : ℕ) (bs p : List ℕ) → b < 256 → eqb b 0x7E ≡ false → eqb b 0x7D ≡ false → Again Binary bs p → Again Binary (b ∷ bs) (b ∷ p)
+plain-again : (b : ℕ) (bs p : List ℕ) → b < 256 → eqb b 0x7E ≡ false → eqb b 0x7D ≡ false → Again Binary bs p
+    → Again Binary (b ∷ bs) (b ∷ p)
 plain-again b bs p h e k a = rw (e, k) at (again-one Binary b bs p h a)
 
-needed-again : (p : List ℕ) (e : Bool) → onlyNeeded e p ≡ true → among 0x7E p ≡ false → Bytes p → Again Binary (unstuff e p .bytes) (escape e ++ p)
+needed-again : (p : List ℕ) (e : Bool) → onlyNeeded e p ≡ true → among 0x7E p ≡ false → Bytes p
+    → Again Binary (unstuff e p .bytes) (escape e ++ p)
 unfolding onlyNeeded unstuff
 needed-again [] true h k b = again-none Binary (0x7D ∷ [])
 needed-again [] false h k b = again-none Binary []
 needed-again (x ∷ p) true h k b =
     let both = both-true (among x (0x5E ∷ 0x5D ∷ [])) (onlyNeeded false p) h in
-    escaped-again x (unstuff false p .bytes) p (both .0) (needed-again p false (both .1) (other-head 0x7E x p k .1) (λ i. b (suc i)))
-needed-again (x ∷ p) false h k b = go (eqb x 0x7D) refl h (λ e q. needed-again p e q (other-head 0x7E x p k .1) (λ i. b (suc i)))
+    escaped-again x (unstuff false p .bytes) p (both .0)
+    (needed-again p false (both .1) (other-head 0x7E x p k .1) (λ i. b (suc i)))
+needed-again (x ∷ p) false h k b =
+    go (eqb x 0x7D) refl h (λ e q. needed-again p e q (other-head 0x7E x p k .1) (λ i. b (suc i)))
   where
-    go : (t : Bool) → eqb x 0x7D ≡ t → onlyNeeded t p ≡ true → ((e : Bool) → onlyNeeded e p ≡ true → Again Binary (unstuff e p .bytes) (escape e ++ p))
+    go : (t : Bool) → eqb x 0x7D ≡ t → onlyNeeded t p ≡ true
+        → ((e : Bool) → onlyNeeded e p ≡ true → Again Binary (unstuff e p .bytes) (escape e ++ p))
         → Again Binary (cond t (unstuff t p) (also x (unstuff t p)) .bytes) (x ∷ p)
     go true e q ih = rw (eqb-true x 0x7D e) (ih true q)
     go false e q ih = plain-again x (unstuff false p .bytes) p (b zero) (other-head 0x7E x p k .0) e (ih false q)
 
 -- the bytes of a part whose escapes were needed are coded again as they came
-again : (f : Framing) (after : List ℕ) → escapesNeeded f after ≡ true → among (startOf f) after ≡ false → Bytes after → Again f (recovered f after .bytes) after
+again : (f : Framing) (after : List ℕ) → escapesNeeded f after ≡ true → among (startOf f) after ≡ false → Bytes after
+    → Again f (recovered f after .bytes) after
 again Binary after h k b = needed-again after false h k b
 again Ascii after h k b = pairs-again after
 
@@ -91,18 +103,21 @@ unfolding frameOf
 nothing-behind f front last m [] u h b e = refl
 nothing-behind f front last m (x ∷ tail) u h b e =
     let sooner : judge f (startOf f ∷ front) ≡ decided (handing 0 m) =
-    ap (λ (l : List ℕ). judge f (startOf f ∷ l)) (cut front (inside f m) tail last x e) ∙ judge-frame f m (take (length tail) (x ∷ tail)) h b in
+    ap (λ (l : List ℕ). judge f (startOf f ∷ l)) (cut front (inside f m) tail last x e)
+    ∙ judge-frame f m (take (length tail) (x ∷ tail)) h b in
     let z : _≡_ {A = ℕ} 0 1 = cc in
     absurd (omega arith)
 
--- READING, THEN WRITING: a part up to its deciding byte that hands out m, and whose escapes were needed, is the frame of m
-pub read-then-write : (f : Framing) (front : List ℕ) (last : ℕ) (m : List ℕ) → HandsOut f front last m → escapesNeeded f (front ++ (last ∷ [])) ≡ true
-    → frameOf f m ≡ startOf f ∷ front ++ (last ∷ [])
+-- READING, THEN WRITING: a part up to its deciding byte that hands out m, and whose escapes were needed, is the frame
+-- of m
+pub read-then-write : (f : Framing) (front : List ℕ) (last : ℕ) (m : List ℕ) → HandsOut f front last m
+    → escapesNeeded f (front ++ (last ∷ [])) ≡ true → frameOf f m ≡ startOf f ∷ front ++ (last ∷ [])
 unfolding frameOf
 read-then-write f front last m r h =
     let after = front ++ (last ∷ []) in
     let begins = good-begins f after m (again f after h (r .alone) (r .bytes)) (r .said) in
-    let is : after ≡ inside f m ++ begins .tail = begins .is ∙ sym (append-assoc (coding f (bodyOf m)) (stopOf f) (begins .tail)) in
+    let is : after ≡ inside f m ++ begins .tail =
+    begins .is ∙ sym (append-assoc (coding f (bodyOf m)) (stopOf f) (begins .tail)) in
     let none = nothing-behind f front last m (begins .tail) (r .before) (begins .check) (begins .bytes) is in
     ap (λ (l : List ℕ). startOf f ∷ l) (sym (is ∙ ap (λ (l : List ℕ). inside f m ++ l) none ∙ append-nil (inside f m)))
 
@@ -123,6 +138,11 @@ inside-needed : (f : Framing) (m : List ℕ) → escapesNeeded f (inside f m) �
 inside-needed Binary m = ap (onlyNeeded false) (append-nil (coding Binary (bodyOf m))) ∙ coding-needed (bodyOf m)
 inside-needed Ascii m = refl
 
+-- AND NO OTHER PART IS: what is written has no needless escape
+pub written-needed : (f : Framing) (after m : List ℕ) → frameOf f m ≡ startOf f ∷ after → escapesNeeded f after ≡ true
+unfolding frameOf
+written-needed f after m e = ap (λ (l : List ℕ). escapesNeeded f (drop 1 l)) (sym e) ∙ inside-needed f m
+
 stop-bytes : (f : Framing) → Bytes (stopOf f)
 stop-bytes Binary = bytes-none
 stop-bytes Ascii = bytes-cons 0x0D [] (lit≤ tt) bytes-none
@@ -135,7 +155,8 @@ pub record FrameReads (f : Framing) (m : List ℕ) : Type 0 where
   pub reads : HandsOut f front last m
   pub needed : escapesNeeded f (front ++ (last ∷ [])) ≡ true
 
--- EVERY FRAME IS SUCH A PART, so that the second round trip speaks of each: it hands out its message, and at its last byte
+-- EVERY FRAME IS SUCH A PART, so that the second round trip speaks of each: it hands out its message, and at its last
+-- byte
 pub frame-reads : (f : Framing) (m : List ℕ) → checkOf m ≡ 0 → Bytes m → FrameReads f m
 unfolding frameOf
 frame-reads f m h b =
@@ -147,7 +168,8 @@ frame-reads f m h b =
       last = l .last;
       is = l .is;
       reads = record {
-        bytes = subst Bytes same (bytes-append (coding f (bodyOf m)) (stopOf f) (coding-bytes f (bodyOf m) body) (stop-bytes f));
+        bytes = subst Bytes same
+            (bytes-append (coding f (bodyOf m)) (stopOf f) (coding-bytes f (bodyOf m) body) (stop-bytes f));
         alone = ap (among (startOf f)) (sym same) ∙ no-start f m;
         before = l .before;
         said = ap (judge f) (sym (l .is) ∙ sym (append-nil (frameOf f m))) ∙ judge-frame f m [] h body;

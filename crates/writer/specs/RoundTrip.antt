@@ -22,8 +22,8 @@ abbrev pub escapesNeeded : Framing → List ℕ → Bool
 escapesNeeded Binary after = onlyNeeded false after
 escapesNeeded Ascii after = true
 
--- a part from its start byte to its deciding byte, both included, that hands out m: there is no other start byte in it, and without its last
--- byte nothing is decided
+-- a part from its start byte to its deciding byte, both included, that hands out m: there is no other start byte in it,
+-- and without its last byte nothing is decided
 pub record HandsOut (f : Framing) (front : List ℕ) (last : ℕ) (m : List ℕ) : Type 0 where
   pub bytes : (i : ℕ) → getD (front ++ (last ∷ [])) i 0 < 256
   pub alone : among (startOf f) (front ++ (last ∷ [])) ≡ false

@@ -1,41 +1,85 @@
 // The writer: a message becomes a frame, in either framing, in the part of a lent buffer that
-// starts at a place. The frame is built apart and its fit decided before anything is stored.
+// starts at a place. Whether the frame fits there is decided before a byte is stored; then it goes
+// straight into that part, in one pass over the message.
 ghost use mathlib.Core.Path.{_≡_};
-ghost use mathlib.Core.List.{[], _∷_, _++_};
-ghost use Prim.Native.Nat.{_+_, _*_, _≤_, _<_};
+ghost use mathlib.Core.List.{[], _∷_};
+ghost use Prim.Native.Nat.{_+_, _≤_};
 ghost use lib.ListN.{length};
 ghost use lib.Seq.{sets};
 ghost use Rattle.standard.specs.Words.{Put};
 ghost use Rattle.standard.specs.Sums.{sumsOf};
-ghost use Rattle.standard.specs.Framing.{startOf, stopOf, stuffed, twoDigits, coded, coding, bodyOf};
-ghost use Rattle.standard.specs.Framing.{digit as Framing·digit};
+ghost use Rattle.standard.specs.Messages.{longestKnown, checkOf};
+ghost use Rattle.standard.specs.declared.Framing.the-variants.{Binary};
+ghost use Rattle.standard.specs.Framing.{stopOf, stuffed, twoDigits, coded, coding, frameOf};
 ghost use Rattle.standard.specs.Writer.{Wrote};
-ghost use Rattle.writer.specs.Refusing.{refusing, laterRefusal};
+ghost use Rattle.writer.specs.Refusing.{refusing, roomRefusal};
 use standard::Framing;
 use standard::Sums;
 use standard::Written;
 
-// "A written binary frame has at most 41 bytes, an ASCII frame at most 44."
-const FRAME: usize = 44;
+// "An ASCII frame at most 44": the longest frame that is written.
+const LONGEST_FRAME: usize = 2 * standard::LONGEST_KNOWN + 8;
 
-// Lays bytes over the beginning of the part that it is lent.
-fn lay(part: &mut [u8], bytes: &[u8])
-    requires { ⌜ length (now bytes) ≤ length (now part) ⌝ }
-    ensures { λ _. ⌜ now (part .exit) ≡ sets (now (part .entry)) 0 (now (bytes .entry)) ⌝ }
+// How many bytes a byte is sent as in binary.
+fn stuffed_length(b: u8) -> usize
+    ensures { λ r. ⌜ r ≡ length (stuffed b) ⌝ }
+    ensures { λ r. ⌜ r ≤ 2 ⌝ }
 {
+    if b == 0x7E {
+        return 2;
+    }
+    if b == 0x7D {
+        return 2;
+    }
+    1
+}
+
+// A binary frame's length, in one pass: the sums may need an escape too.
+fn binary_length(message: &[u8]) -> usize
+    requires { ⌜ length (now message) ≤ longestKnown ⌝ }
+    ensures { λ r. ⌜ r ≡ length (frameOf Binary (now (message .entry))) ⌝ }
+{
+    let n = message.len() as u8;
+    let mut one = sums::add(0, n);
+    let mut two = sums::add(0, one);
+    let mut size = stuffed_length(n);
     let mut i = 0;
-    while i < bytes.len() {
-        part[i] = bytes[i];
+    while i < message.len() {
+        let b = message[i];
+        one = sums::add(one, b);
+        two = sums::add(two, one);
+        size += stuffed_length(b);
         i += 1;
+    }
+    1 + size + stuffed_length(one) + stuffed_length(two)
+}
+
+// How long the frame of a message is.
+fn frame_length(message: &[u8], framing: Framing) -> usize
+    requires { ⌜ length (now message) ≤ longestKnown ⌝ }
+    ensures { λ r. ⌜ r ≡ length (frameOf framing (now (message .entry))) ⌝ }
+{
+    match framing {
+        Framing::Binary => binary_length(message),
+        Framing::Ascii => 2 * message.len() + 8,
     }
 }
 
-// A digit "from 0-9 and A-F".
-fn digit(d: u8) -> u8
-    requires { ⌜ d < 16 ⌝ }
-    ensures { λ r. ⌜ r ≡ Framing·digit d ⌝ }
+// What is refused of a message that passed: 9. There is no test for 10, since "a sum is 0 to 254".
+// Where the longest frame would fit, the message's own need not be measured.
+fn refusal(message: &[u8], framing: Framing, place: usize, size: usize) -> u8
+    requires { ⌜ checkOf (now message) ≡ 0 ⌝ }
+    ensures { λ r. ⌜ r ≡ roomRefusal (length (frameOf framing (now (message .entry)))) place size ⌝ }
 {
-    if d < 10 { 48 + d } else { 55 + d }
+    if size < place {
+        return 9;
+    }
+    if size - place < LONGEST_FRAME {
+        if size - place < frame_length(message, framing) {
+            return 9;
+        }
+    }
+    0
 }
 
 // Each `put_` function stores from a place on and says the place after what it stored.
@@ -50,7 +94,7 @@ fn put_two(frame: &mut [u8], place: usize, first: u8, second: u8) -> usize
 
 // "7Eh and 7Dh are sent as 7D 5E and 7D 5D."
 fn put_stuffed(frame: &mut [u8], place: usize, b: u8) -> usize
-    requires { ⌜ place + 2 ≤ length (now frame) ⌝ }
+    requires { ⌜ place + length (stuffed b) ≤ length (now frame) ⌝ }
     ensures { λ r. ⌜ Put (now (frame .entry)) place (stuffed b) (now (frame .exit)) r ⌝ }
 {
     if b == 0x7E {
@@ -65,15 +109,16 @@ fn put_stuffed(frame: &mut [u8], place: usize, b: u8) -> usize
 
 // "Every byte as two characters, high digit first."
 fn put_digits(frame: &mut [u8], place: usize, b: u8) -> usize
-    requires { ⌜ place + 2 ≤ length (now frame) ⌝ }
+    requires { ⌜ place + length (twoDigits b) ≤ length (now frame) ⌝ }
     ensures { λ r. ⌜ Put (now (frame .entry)) place (twoDigits b) (now (frame .exit)) r ⌝ }
 {
-    put_two(frame, place, digit(b / 16), digit(b % 16))
+    let digits = standard::two_digits(b);
+    put_two(frame, place, digits[0], digits[1])
 }
 
 // A byte as its framing has it on the line.
 fn put_coded(frame: &mut [u8], place: usize, b: u8, framing: Framing) -> usize
-    requires { ⌜ place + 2 ≤ length (now frame) ⌝ }
+    requires { ⌜ place + length (coded framing b) ≤ length (now frame) ⌝ }
     ensures { λ r. ⌜ Put (now (frame .entry)) place (coded framing b) (now (frame .exit)) r ⌝ }
 {
     match framing {
@@ -88,11 +133,11 @@ struct Coded {
     sums: Sums,
 }
 
-// The bytes of a message so, one after another, and the sums of its length byte and of them. A byte
-// is summed before it is coded.
+// The bytes of a message so, one after another, and the sums: "over the length byte and all message
+// bytes", each before it is coded.
 fn put_summed(frame: &mut [u8], place: usize, message: &[u8], framing: Framing) -> Coded
-    requires { ⌜ length (now message) ≤ 255 ⌝ }
-    requires { ⌜ place + 2 * length (now message) ≤ length (now frame) ⌝ }
+    requires { ⌜ length (now message) ≤ longestKnown ⌝ }
+    requires { ⌜ place + length (coding framing (now message)) ≤ length (now frame) ⌝ }
     ensures { λ r. ⌜ r .sums ≡ sumsOf (length (now (message .entry)) ∷ now (message .entry)) ⌝ }
     ensures { λ r. ⌜ Put (now (frame .entry)) place (coding framing (now (message .entry))) (now (frame .exit)) (r .next) ⌝ }
 {
@@ -113,19 +158,9 @@ fn put_summed(frame: &mut [u8], place: usize, message: &[u8], framing: Framing) 
     }
 }
 
-// "Start 7Eh", "Start 0Ah".
-fn start(framing: Framing) -> u8
-    ensures { λ r. ⌜ r ≡ startOf framing ⌝ }
-{
-    match framing {
-        Framing::Binary => 0x7E,
-        Framing::Ascii => 0x0A,
-    }
-}
-
 // "No stop byte", "then stop 0Dh".
 fn put_stop(frame: &mut [u8], place: usize, framing: Framing) -> usize
-    requires { ⌜ place < length (now frame) ⌝ }
+    requires { ⌜ place + length (stopOf framing) ≤ length (now frame) ⌝ }
     ensures { λ r. ⌜ Put (now (frame .entry)) place (stopOf framing) (now (frame .exit)) r ⌝ }
 {
     match framing {
@@ -137,46 +172,20 @@ fn put_stop(frame: &mut [u8], place: usize, framing: Framing) -> usize
     }
 }
 
-// The length of a frame, and its sums.
-struct Framed {
-    length: usize,
-    sums: Sums,
-}
-
-// "Length byte, message (type byte first), two sum bytes", between start and stop.
-fn put_frame(frame: &mut [u8], message: &[u8], framing: Framing) -> Framed
-    requires { ⌜ length (now message) ≤ 255 ⌝ }
-    requires { ⌜ 2 * length (now message) + 8 ≤ length (now frame) ⌝ }
-    ensures { λ r. ⌜ r .sums ≡ sumsOf (length (now (message .entry)) ∷ now (message .entry)) ⌝ }
-    ensures { λ r. ⌜ Put (now (frame .entry)) 0 (startOf framing ∷ coding framing (bodyOf (now (message .entry))) ++ stopOf framing) (now (frame .exit)) (r .length) ⌝ }
+// "Length byte, message (type byte first), two sum bytes", between start and stop, at the beginning
+// of the part that it is lent. What it says is the frame's length.
+fn put_frame(frame: &mut [u8], message: &[u8], framing: Framing) -> usize
+    requires { ⌜ length (now message) ≤ longestKnown ⌝ }
+    requires { ⌜ length (frameOf framing (now message)) ≤ length (now frame) ⌝ }
+    ensures { λ r. ⌜ Put (now (frame .entry)) 0 (frameOf framing (now (message .entry))) (now (frame .exit)) r ⌝ }
 {
-    frame[0] = start(framing);
+    frame[0] = standard::start_of(framing);
     let first = put_coded(frame, 1, message.len() as u8, framing);
     let coded = put_summed(frame, first, message, framing);
     let sums = coded.sums;
     let one = put_coded(frame, coded.next, sums.one, framing);
     let two = put_coded(frame, one, sums.two, framing);
-    let end = put_stop(frame, two, framing);
-    Framed { length: end, sums }
-}
-
-// What is refused of a message that passed: "10, 9". No message can cause 10.
-fn refusal(sums: Sums, frame: usize, place: usize, size: usize) -> u8
-    ensures { λ r. ⌜ r ≡ laterRefusal sums frame place size ⌝ }
-{
-    if sums.one == 0xFF {
-        return 10;
-    }
-    if sums.two == 0xFF {
-        return 10;
-    }
-    if size < place {
-        return 9;
-    }
-    if size - place < frame {
-        return 9;
-    }
-    0
+    put_stop(frame, two, framing)
 }
 
 // "A refusal says length 0."
@@ -186,8 +195,8 @@ fn refused(number: u8) -> Written
     Written { number, length: 0 }
 }
 
-// The frame goes "into the part of the out buffer that starts at that place", once it is known to
-// fit there.
+// The frame goes "into the part of the out buffer that starts at that place": once it is known to
+// fit there, that part is lent to what puts it.
 pub fn write(message: &[u8], framing: Framing, out: &mut [u8], place: usize) -> Written
     ensures { λ r. ⌜ Wrote (now (message .entry)) framing (now (out .entry)) place r (now (out .exit)) ⌝ }
 {
@@ -195,17 +204,10 @@ pub fn write(message: &[u8], framing: Framing, out: &mut [u8], place: usize) -> 
     if checked != 0 {
         return refused(checked);
     }
-    let mut frame = [0u8; FRAME];
-    let framed = put_frame(&mut frame, message, framing);
-    let sums = framed.sums;
-    let n = framed.length;
-    let number = refusal(sums, n, place, out.len());
+    let number = refusal(message, framing, place, out.len());
     if number != 0 {
         return refused(number);
     }
-    lay(&mut out[place..], &frame[..n]);
-    Written {
-        number: 0,
-        length: n,
-    }
+    let length = put_frame(&mut out[place..], message, framing);
+    Written { number: 0, length }
 }

@@ -1,5 +1,5 @@
--- `sums::add` meets its contract. Before the last test the eight bits hold the sum, or 255 less than it where the carry was added again.
--- Assumes nothing.
+-- `sums::add` meets its contract. Before the last test the eight bits hold the sum, or 255 less than it where the carry
+-- was added again. Assumes nothing.
 use Prim.Native.Nat.{ℕ, _+_, _%_, _≤_, _<_}
 use native.Mathlib.Nat.{add-mod-right, mod-eq-of-lt}
 use native.Mathlib.Omega.{arith}
@@ -20,7 +20,8 @@ kept : (s b n : ℕ) → s + b ≤ 255 → n ≡ (s + b) % 256 → n % 255 ≡ (
 kept s b n h e = ap (λ k. k % 255) (e ∙ mod-eq-of-lt (omega arith))
 
 -- what the eight bits hold before the last test
-remainder : (c : tie.After-wrapping-add-u82) → c .wrapping-add-u82 .result % 255 ≡ (c .before .before .args .sum + c .before .before .args .b) % 255
+remainder : (c : tie.After-wrapping-add-u82)
+    → c .wrapping-add-u82 .result % 255 ≡ (c .before .before .args .sum + c .before .before .args .b) % 255
 remainder c =
     let a = c .before .before .args in
     let n = c .wrapping-add-u82 .result in

@@ -1,5 +1,5 @@
--- `sums::sums_of` meets its contract. The invariant: one and two are the sums of the first i bytes; a turn is the law `sums-turn`.
--- Assumes nothing.
+-- `sums::sums_of` meets its contract. The invariant: one and two are the sums of the first i bytes; a turn is the law
+-- `sums-turn`. Assumes nothing.
 use Prim.Native.Nat.{_≤_, _-_}
 use native.Mathlib.Omega.{arith}
 use mathlib.Core.Path.{_≡_, sym, ap, _∙_}
@@ -12,7 +12,8 @@ use Rattle.sums.proofs.sums_of.Statement.{statement}
 use Rattle.sums.proofs.sums_of.Tie as tie
 
 abbrev Inv-loop : tie.InvT-loop
-Inv-loop bytes one₀ two₀ i₀ one two i = (i ≤ length bytes) × (_≡_ {A = Sums} (record { one = one; two = two }) (sumsOf (take i bytes)))
+Inv-loop bytes one₀ two₀ i₀ one two i =
+    (i ≤ length bytes) × (_≡_ {A = Sums} (record { one = one; two = two }) (sumsOf (take i bytes)))
 
 abbrev μ-loop : tie.MeasureT-loop
 μ-loop bytes one₀ two₀ i₀ one two i = length bytes - i

@@ -1,18 +1,19 @@
--- `writer::put_summed` meets its contract. The loop's invariant: the bytes passed are put, coded, and the sums are those of the length byte and of
--- them. Assumes nothing.
-use Prim.Native.Nat.{ℕ, suc, _+_, _-_, _≤_, _<_}
+-- `writer::put_summed` meets its contract. The loop's invariant: the bytes passed are put, coded, and the sums are
+-- those of the length byte and of them. Assumes nothing.
+use Prim.Native.Nat.{ℕ, _+_, _-_, _≤_}
 use native.Mathlib.Omega.{arith}
-use mathlib.Core.Path.{_≡_, sym, ap, _∙_}
-use mathlib.Core.List.{List, [], _∷_, flatMap}
+use mathlib.Core.Path.{_≡_, ap, _∙_}
+use mathlib.Core.List.{_∷_}
 use lib.ListN.{length, getD, take}
-use lib.Seq.{take-length, length-take-le}
+use lib.Seq.{take-all}
 use Rattle.standard.specs.declared.Sums.{Sums}
 use Rattle.standard.specs.Words.{Put}
 use Rattle.standard.specs.Sums.{sumsOf}
 use Rattle.standard.specs.Framing.{coding}
-use Rattle.standard.proofs.Sum.{stepped, sums-none, sums-more, sums-turn}
+use Rattle.standard.proofs.Sum.{stepped}
 use Rattle.standard.proofs.Put.{put-none, put-then, put-length}
-use Rattle.standard.proofs.Framings.{coding-more, coding-few}
+use Rattle.standard.proofs.Framings.{coding-more}
+use Rattle.writer.proofs.Pieces.{coding-none, length-more, coding-part, sums-first, sums-next}
 use Rattle.writer.proofs.put_summed.Statement.{statement}
 use Rattle.writer.proofs.put_summed.Tie as tie
 
@@ -34,12 +35,11 @@ add-requires-2 : tie.Need-add-requires-2 Inv-loop μ-loop
 add-requires-2 c κs = tt
 
 loop-holds : tie.Need-loop-holds Inv-loop μ-loop
-unfolding coding flatMap
 loop-holds c =
     let L = length (c .before .before .before .before .args .message .now) in
     let after : Sums = record { one = c .before .add .result; two = c .add2 .result } in
     let step : after ≡ stepped (record { one = 0; two = 0 }) L = cc in
-    (omega arith, put-none _ _, step ∙ ap (λ s. stepped s L) (sym sums-none) ∙ sym (sums-more [] L))
+    (omega arith, rw (coding-none _) (put-none _ _), step ∙ sums-first L)
 
 shared-slice-read-b : tie.Need-shared-slice-read-b Inv-loop μ-loop
 shared-slice-read-b c = omega arith
@@ -48,9 +48,11 @@ put-coded-requires : tie.Need-put-coded-requires Inv-loop μ-loop
 put-coded-requires c κs =
     let l = c .before .before .before .loop in
     let s = c .before .before .before .before .before .before .before .before in
-    let few = coding-few (s .args .framing) (take (l .i) (s .args .message .now)) in
-    let size : length (take (l .i) (s .args .message .now)) ≡ l .i = length-take-le _ _ (l .inv .0) in
-    omega (arith, put-length (l .inv .1), l .inv .1 .end, s .pre .1)
+    let f = s .args .framing in
+    let m = s .args .message .now in
+    let more = length-more f m (l .i) (omega arith) in
+    let part = coding-part f m (l .i + 1) in
+    omega (arith, put-length (l .inv .1), l .inv .1 .end, s .pre .1, more, part)
 
 add-requires-3 : tie.Need-add-requires-3 Inv-loop μ-loop
 add-requires-3 c κs = tt
@@ -66,17 +68,18 @@ loop-less c = omega arith
 
 loop-again : tie.Need-loop-again Inv-loop μ-loop
 loop-again c =
-    let l = c .before .before .before .before .before .before .before .before .loop in
-    let s = c .before .before .before .before .before .before .before .before .before .before .before .before .before in
+    let put = c .before .before .before .before in
+    let l = put .before .before .before .before .loop in
+    let s = put .before .before .before .before .before .before .before .before .before in
     let m = s .args .message .now in
     let b = getD m (l .i) 0 in
     let before : Sums = record { one = l .one; two = l .two } in
     let after : Sums = record { one = c .before .add3 .result; two = c .add4 .result } in
-    let places : suc (l .i) + 1 ≡ suc (l .i + 1) = omega arith in
-    let step : after ≡ stepped before b = cc in (
+    let step : after ≡ stepped before b = cc in
+    let more = coding-more (s .args .framing) m (l .i) (omega arith) in (
       omega arith,
-      rw (← coding-more (s .args .framing) m (l .i) (omega arith)) (put-then (l .inv .1) (c .before .before .before .before .put-coded .ensures)),
-      step ∙ ap (λ s. stepped s b) (l .inv .2) ∙ sums-turn (length m ∷ m) (suc (l .i)) (omega arith) ∙ ap (λ k. sumsOf (take k (length m ∷ m))) places,
+      rw (← more) (put-then (l .inv .1) (put .put-coded .ensures)),
+      step ∙ ap (λ s. stepped s b) (l .inv .2) ∙ sums-next (length m) m (l .i) (omega arith),
     )
 
 same-length : tie.Need-same-length Inv-loop μ-loop
@@ -86,8 +89,7 @@ returns : tie.Need-returns Inv-loop μ-loop
 returns c =
     let l = c .before .loop in
     let m = c .before .before .before .before .before .before .args .message .now in
-    let all : l .i ≡ length m = omega arith in
-    let whole : take (l .i) m ≡ m = ap (λ (n : ℕ). take n m) all ∙ take-length m in
+    let whole : take (l .i) m ≡ m = take-all (l .i) m (omega arith) in
     (l .inv .2 ∙ ap (λ t. sumsOf (length m ∷ t)) whole, rw whole at (l .inv .1))
 
 pub put-summed-spec : {M : Type 1} → statement M
