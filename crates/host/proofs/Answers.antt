@@ -16,17 +16,20 @@ use Rattle.standard.specs.Replies.{replyNumber, replyOf}
 use Rattle.standard.specs.Table.{tableBytes, tableAfter}
 use Rattle.standard.proofs.Replies.{reply-none}
 use Rattle.reader.specs.declared.Reader.{Reader}
-use Rattle.reader.specs.Read.{Given, notSound, readOf, Gives, Reads}
+use Rattle.reader.specs.Read.{Given, readOf, Gives, Reads}
 use Rattle.reader.proofs.Handing.{saidFor, one-verdict}
-use Rattle.host.specs.Hear.{replyTo, noTable, heardBy, Hears}
+use Rattle.host.specs.Hear.{replyTo, heardBy, Hears}
 
 -- ---- what a call hears
 
-pub no-table : (r : Reader) (t bs : List ℕ) → (length t ≡ tableBytes → ⊥) → heardBy r t bs ≡ noTable r
+-- 11 and 12: nothing is used, and the reader is handed back
+pub no-table : (r : Reader) (t bs : List ℕ) → (length t ≡ tableBytes → ⊥)
+    → heardBy r t bs ≡ record { reader = r; used = 0; said = handing 11 [] ∷ [] }
 unfolding heardBy
 no-table r t bs h = rw (ne-eqb (length t) tableBytes h)
 
-pub no-array : (r : Reader) (t bs : List ℕ) → length t ≡ tableBytes → (length (r .bytes) ≡ longest + 3 → ⊥) → heardBy r t bs ≡ notSound r
+pub no-array : (r : Reader) (t bs : List ℕ) → length t ≡ tableBytes → (length (r .bytes) ≡ longest + 3 → ⊥)
+    → heardBy r t bs ≡ record { reader = r; used = 0; said = handing 12 [] ∷ [] }
 unfolding heardBy
 no-array r t bs h w = rw (eq-eqb (length t) tableBytes h, ne-eqb (length (r .bytes)) (longest + 3) w)
 

@@ -7,6 +7,7 @@ use mathlib.Core.List.{List, [], _∷_, _++_, map, flatMap}
 use lib.Dec.{eqb}
 use lib.ListN.{length, drop}
 use Rattle.standard.specs.declared.Framing.{Framing}
+use Rattle.standard.specs.Framing.{startOf}
 use Rattle.standard.specs.Judge.{Handed}
 use Rattle.standard.specs.Stream.{handedOf}
 use Rattle.standard.specs.Replies.{replyOf}
@@ -49,6 +50,15 @@ streamHeard f stream = heardAs fresh (handedOf f stream)
 abbrev pub noCall : List ℕ → Heard
 noCall t = record { handed = []; replies = []; sent = []; table = t }
 
+-- what is heard first, and what then
+abbrev pub thenHeard : Heard → Heard → Heard
+thenHeard first later = record {
+  handed = first .handed ++ later .handed;
+  replies = first .replies ++ later .replies;
+  sent = first .sent ++ later .sent;
+  table = later .table;
+}
+
 -- one call more, before what later calls hear: what it said, and the reply that it told
 abbrev pub alsoHeard : List Handed → ℕ → Heard → Heard
 alsoHeard said reply later = record {
@@ -78,3 +88,15 @@ pub data Hearings : Reader → List ℕ → List (List ℕ) → Heard → Type 0
       → joined again ≡ drop (answerOf r t bs .gives .used) bs ++ joined reads
       → Hearings (answerOf r t bs .gives .reader) (answerOf r t bs .table) again later
       → Hearings r t (bs ∷ reads) (alsoHeard (answerOf r t bs .gives .said) (answerOf r t bs .reply) later)
+
+-- ---- an intact frame, between any bytes p and q
+
+-- before it: p, as if the frame's start byte were its last
+abbrev pub heardBefore : Framing → List ℕ → Heard
+heardBefore f p = streamHeard f (p ++ (startOf f ∷ []))
+
+-- its own verdict h with the reply to it, a good message in the table, and then what q gives
+abbrev pub heardAmid : Framing → List ℕ → Handed → List ℕ → Heard
+heardAmid f p h q =
+    let t = heardBefore f p .table in
+    thenHeard (heardBefore f p) (alsoHeard (h ∷ []) (replyFor h) (heardAs (tableAfter t (h ∷ [])) (handedOf f q)))
