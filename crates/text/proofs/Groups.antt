@@ -10,9 +10,8 @@ use borrow.Author.Tests.{eq-eqb, ne-eqb}
 use Rattle.standard.specs.declared.Group.{Group}
 use Rattle.standard.specs.Words.{upTo}
 use Rattle.standard.specs.Overview.{Counted, counted, heardOf, faultedOf, groupNumbers, groupValues}
-use Rattle.standard.specs.Report.{decimal, minus9999, groupLine}
+use Rattle.standard.specs.Report.{decimal, minus9999, faultedText, countsLine, groupLine}
 use Rattle.standard.proofs.Words.{flatMap-append, map-more}
-use Rattle.text.specs.Lines.{faultedText, countsLine}
 
 pub not-heard : (heard faulted : ℕ) → heard ≡ 0 → faultedText heard faulted ≡ minus9999
 not-heard heard faulted h = rw (eq-eqb heard 0 h)
