@@ -1,4 +1,5 @@
--- The answer of `listen`, from that of `scan`: refused with 11 or 12, or with the table after what was handed out and the reply to it. Assumes nothing.
+-- The answer of `listen`, from that of `scan`: refused with 11 or 12, or with the table after what was handed out and
+-- the reply to it. Assumes nothing.
 use Prim.Native.Nat.{ℕ, _+_, _-_, _≤_}
 use native.Mathlib.Omega.{arith}
 use mathlib.Core.Path.{_≡_, refl, sym, ap, _∙_}
@@ -34,7 +35,8 @@ unfolding heardBy
 no-array r t bs h w = rw (eq-eqb (length t) tableBytes h, ne-eqb (length (r .bytes)) (longest + 3) w)
 
 -- with a whole table, and a reader's array, a call hears what a read gives
-pub heard-read : (r : Reader) (t bs : List ℕ) → length t ≡ tableBytes → length (r .bytes) ≡ longest + 3 → heardBy r t bs ≡ readOf r bs
+pub heard-read : (r : Reader) (t bs : List ℕ) → length t ≡ tableBytes → length (r .bytes) ≡ longest + 3
+    → heardBy r t bs ≡ readOf r bs
 unfolding heardBy
 heard-read r t bs h w = rw (eq-eqb (length t) tableBytes h, eq-eqb (length (r .bytes)) (longest + 3) w)
 
@@ -57,8 +59,9 @@ refused number r t bs h e =
     }
 
 -- a read that said `heard`, and the reply and the table that go with it
-pub hears : (r : Reader) (t bs : List ℕ) {reader : Reader} {used : ℕ} {heard said : Said} {reply : Reply} {after : List ℕ} → heard ≡ said
-    → heardBy r t bs ≡ readOf r bs → Reads r bs reader used heard → replyNumber reply ≡ replyTo (handedIn said (reader .bytes))
+pub hears : (r : Reader) (t bs : List ℕ) {reader : Reader} {used : ℕ} {heard said : Said} {reply : Reply}
+    {after : List ℕ} → heard ≡ said → heardBy r t bs ≡ readOf r bs → Reads r bs reader used heard
+    → replyNumber reply ≡ replyTo (handedIn said (reader .bytes))
     → after ≡ tableAfter t (handedIn said (reader .bytes)) → Hears r t bs reader used said reply after
 hears r t bs {reader} {used} {heard} {said} s e read p q =
     let as-said : Reads r bs reader used said = rw s at read in
@@ -78,8 +81,12 @@ pub message-fits : (v : Verdict) {said : Said} {reader : Reader} {a : Given} →
 message-fits v {said} {reader} {a} s g =
     let given : Gives reader (Gave v) a = rw s at g in
     let bytes = reader .bytes in
-    let same : v ∷ [] ≡ map verdictFor (handedIn (Gave v) bytes) = given .verdict ∙ ap (map verdictFor) (sym (given .handed)) in
-    let size : v .length ≡ length (take (v .length) (drop 1 bytes)) = ap (λ (w : Verdict). w .length) (head-eq-of-cons-eq same) in
+    let same : v ∷ [] ≡ map verdictFor (handedIn (Gave v) bytes) =
+    given .verdict ∙ ap (map verdictFor) (sym (given .handed))
+    in
+    let size : v .length ≡ length (take (v .length) (drop 1 bytes)) =
+    ap (λ (w : Verdict). w .length) (head-eq-of-cons-eq same)
+    in
     omega (arith, length-take (v .length) (drop 1 bytes), length-drop 1 bytes)
 
 few : (said : Said) (hs : List Handed) → verdictsIn said ≡ map verdictFor hs → length hs ≤ 1

@@ -1,6 +1,7 @@
--- DEMAND 3: from a fresh reader and a fresh table, however the stream is cut into reads, the verdicts, the messages and type bytes handed out,
--- the replies and the final table are those of the uncut stream, split before every start byte and each part judged by itself. The reader's
--- theorem gives what is handed out; a call's reply and table are functions of what it said, which is one verdict at most. Assumes nothing.
+-- DEMAND 3: from a fresh reader and a fresh table, however the stream is cut into reads, the verdicts, the messages
+-- and type bytes handed out, the replies and the final table are those of the uncut stream, split before every start
+-- byte and each part judged by itself. The reader's theorem gives what is handed out; a call's reply and table follow
+-- from what it said, which is one verdict at most. Assumes nothing.
 use Prim.Native.Nat.{ℕ, zero, suc, _+_, _≤_}
 use native.Mathlib.Omega.{arith}
 use mathlib.Core.Path.{_≡_, refl, ap, _∙_}
@@ -38,7 +39,8 @@ pub after-length : (t : List ℕ) (hs : List Handed) → length (tableAfter t hs
 unfolding tableAfter
 after-length t [] = refl
 after-length t (h ∷ hs) =
-    after-length (cond (eqb (h .verdict) 0) (appliedTo t (h .message)) t) hs ∙ kept-length (eqb (h .verdict) 0) t (h .message)
+    let good = eqb (h .verdict) 0 in
+    after-length (cond good (appliedTo t (h .message)) t) hs ∙ kept-length good t (h .message)
 
 fresh-whole : length fresh ≡ tableBytes
 unfolding fresh
@@ -68,7 +70,8 @@ also-as t (h ∷ g ∷ said) hs few = absurd (omega arith)
 
 -- ---- THE THEOREM
 
-hearings-calls : (n : ℕ) (r : Reader) (t : List ℕ) (reads : List (List ℕ)) → Fit r t → hearingsOf n r t reads ≡ heardAs t (callsOf n r reads)
+hearings-calls : (n : ℕ) (r : Reader) (t : List ℕ) (reads : List (List ℕ)) → Fit r t
+    → hearingsOf n r t reads ≡ heardAs t (callsOf n r reads)
 unfolding hearingsOf callsOf tableAfter flatMap
 hearings-calls zero r t reads w = refl
 hearings-calls (suc n) r t [] w = refl
@@ -102,7 +105,8 @@ calling-again r t bs reads again later a e j c = record {
       ∙ also-as t (a .said) (later .handed) (rw e (one-said r bs));
 }
 
-calling : {r : Reader} {t : List ℕ} {reads : List (List ℕ)} {heard : Heard} → Hearings r t reads heard → Fit r t → Calling r t reads heard
+calling : {r : Reader} {t : List ℕ} {reads : List (List ℕ)} {heard : Heard} → Hearings r t reads heard → Fit r t
+    → Calling r t reads heard
 unfolding tableAfter flatMap
 calling finished w = record { calls = no-call; heard-as = refl }
 calling (call {r} {t} {bs} {reads} {again} {later} j c) w =
@@ -110,8 +114,8 @@ calling (call {r} {t} {bs} {reads} {again} {later} j c) w =
     calling-again r t bs reads again later (heardBy r t bs) e j (calling c (rw e (fit-read r t bs w)))
 
 -- the same for any caller, which cuts again as it likes what is left and what is still to come
-pub demand3-any-caller : (f : Framing) {reads : List (List ℕ)} {heard : Heard} → Hearings (freshReader f) fresh reads heard
-    → heard ≡ streamHeard f (joined reads)
+pub demand3-any-caller : (f : Framing) {reads : List (List ℕ)} {heard : Heard}
+    → Hearings (freshReader f) fresh reads heard → heard ≡ streamHeard f (joined reads)
 demand3-any-caller f {reads} {heard} c =
     let w = calling c (fresh-fit f) in
     w .heard-as ∙ ap (heardAs fresh) (any-caller f (w .calls))

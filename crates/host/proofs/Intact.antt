@@ -1,5 +1,6 @@
--- AN INTACT FRAME IS HEARD after all kinds of noise, and whatever follows it: its verdict, its reply and its effect on the table are its own,
--- and what stands before it is heard as if the frame's start byte were its last. For every caller. Assumes nothing.
+-- AN INTACT FRAME IS HEARD after all kinds of noise, and whatever follows it: its verdict, its reply and its effect on
+-- the table are its own, and what stands before it is heard as if the frame's start byte were its last.
+-- Assumes nothing.
 use Prim.Native.Nat.{ℕ}
 use mathlib.Core.Path.{_≡_, refl, ap, _∙_}
 use mathlib.Core.Bool.{false}
@@ -23,7 +24,8 @@ use Rattle.host.specs.Hearings.{heardBefore, heardAmid}
 use Rattle.host.proofs.Demand3.{after-append, demand3, demand3-any-caller}
 
 -- some verdicts, and others after them
-heard-append : (t : List ℕ) (a b : List Handed) → heardAs t (a ++ b) ≡ thenHeard (heardAs t a) (heardAs (tableAfter t a) b)
+heard-append : (t : List ℕ) (a b : List Handed)
+    → heardAs t (a ++ b) ≡ thenHeard (heardAs t a) (heardAs (tableAfter t a) b)
 heard-append t a b =
     rw (map-append replyFor a b, flatMap-append (λ h. sends (replyFor h)) a b, after-append t a b)
 

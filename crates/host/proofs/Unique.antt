@@ -1,5 +1,5 @@
--- Two answers that meet the contract of `listen` are equal, and leave the frame's bytes and the table alike; and two that meet that of `hear`.
--- Assumes nothing.
+-- Two answers that meet the contract of `listen` are equal, and leave the frame's bytes and the table alike; and two
+-- that meet that of `hear`. Assumes nothing.
 use Prim.Native.Nat.{ℕ}
 use mathlib.Core.Path.{_≡_, sym, ap, ap₂, _∙_}
 use mathlib.Core.List.{List}
@@ -38,8 +38,8 @@ abbrev hearing : Taken → Told → Hearing
 hearing r t = record { reader = r .reader; used = r .used; said = t .said; reply = t .reply }
 
 one : (r : Reader) (t bs : List ℕ) (x y : Hearing) (after other : List ℕ)
-    → Hears r t bs (x .reader) (x .used) (x .said) (x .reply) after → Hears r t bs (y .reader) (y .used) (y .said) (y .reply) other
-    → (x ≡ y) × (after ≡ other)
+    → Hears r t bs (x .reader) (x .used) (x .said) (x .reply) after
+    → Hears r t bs (y .reader) (y .used) (y .said) (y .reply) other → (x ≡ y) × (after ≡ other)
 one r t bs x y after other p q =
     let said = verdicts-same (x .said) (y .said) (p .gives .verdict ∙ sym (q .gives .verdict)) in
     let reply = reply-one {a = x .reply} {b = y .reply} (p .replies ∙ sym (q .replies)) in (
@@ -62,10 +62,17 @@ asHearing l frame = record {
 }
 
 abbrev asListened : Hearing → Listened
-asListened h = record { mode = h .reader .mode; held = h .reader .held; used = h .used; said = h .said; reply = h .reply }
+asListened h = record {
+  mode = h .reader .mode;
+  held = h .reader .held;
+  used = h .used;
+  said = h .said;
+  reply = h .reply;
+}
 
-pub listen-unique : (κs : Lfts 3) (a : Dens κs listen-kinds.ps) (e e′ : AtExit (endedOf 3 listen-kinds.ps listen-kinds.r) κs)
-    (x y : resT listen-kinds.r κs .Denot) → listen.Post κs a x e → listen.Post κs a y e′
+pub listen-unique : (κs : Lfts 3) (a : Dens κs listen-kinds.ps)
+    (e e′ : AtExit (endedOf 3 listen-kinds.ps listen-kinds.r) κs) (x y : resT listen-kinds.r κs .Denot)
+    → listen.Post κs a x e → listen.Post κs a y e′
     → (x ≡ y) × (e .1 .1 .0 .now ≡ e′ .1 .1 .0 .now) × (e .1 .1 .1 .0 .now ≡ e′ .1 .1 .1 .0 .now)
 listen-unique κs a e e′ x y p q =
     let frame = e .1 .1 .0 .now in

@@ -38,10 +38,13 @@ pub record Answered : Type 0 where
   pub table : List ℕ
 
 abbrev pub answerOf : Reader → List ℕ → List ℕ → Answered
-answerOf r t bs = let a = heardBy r t bs in record { gives = a; reply = replyTo (a .said); table = tableAfter t (a .said) }
+answerOf r t bs =
+    let a = heardBy r t bs in
+    record { gives = a; reply = replyTo (a .said); table = tableAfter t (a .said) }
 
 -- what `hear` and `listen` promise: reader and verdict, used bytes, reply, and every byte of the table
-pub record Hears (r : Reader) (t bs : List ℕ) (reader : Reader) (used : ℕ) (said : Said) (reply : Reply) (after : List ℕ) : Type 0 where
+pub record Hears (r : Reader) (t bs : List ℕ) (reader : Reader) (used : ℕ) (said : Said) (reply : Reply)
+    (after : List ℕ) : Type 0 where
   pub gives : Gives reader said (answerOf r t bs .gives)
   pub uses : used ≡ answerOf r t bs .gives .used
   pub replies : replyNumber reply ≡ answerOf r t bs .reply

@@ -1,5 +1,5 @@
--- Callers of `hear`, for demand 3: reads handed in one after another, and what a call left unused before the next. What a caller has heard is
--- made of what its calls answer. Over `answerOf` and `standard` alone. Assumes nothing.
+-- Callers of `hear`, for demand 3: reads handed in one after another, and what a call left unused before the next. What
+-- a caller has heard is made of what its calls answer. Over `answerOf` and `standard` alone. Assumes nothing.
 use Prim.Native.Nat.{ℕ, zero, suc, _+_}
 use mathlib.Core.Path.{_≡_}
 use mathlib.Core.Bool.{cond}
@@ -41,7 +41,7 @@ heardAs t hs = record {
   table = tableAfter t hs;
 }
 
--- THE UNCUT STREAM: split before every start byte, each part judged by itself, and its replies and table from a fresh one
+-- THE UNCUT STREAM: split before every start byte, each part judged by itself, its replies, and a fresh table after it
 abbrev pub streamHeard : Framing → List ℕ → Heard
 streamHeard f stream = heardAs fresh (handedOf f stream)
 

@@ -36,8 +36,8 @@ module _ (capture : List ℕ) (h : length capture ≤ mostRead) where
     pub parts-fit : length (linesOf capture) + length groups ≤ longestReport
     parts-fit = omega (arith, room capture, ap length report-parts, length-append (linesOf capture) groups)
 
-    pub report-put : {out out₁ out₂ : List ℕ} {place end : ℕ} → Put out 0 (linesOf capture) out₁ place → Put out₁ place groups out₂ end
-        → Put out 0 (reportOf capture) out₂ end
+    pub report-put : {out out₁ out₂ : List ℕ} {place end : ℕ} → Put out 0 (linesOf capture) out₁ place
+        → Put out₁ place groups out₂ end → Put out 0 (reportOf capture) out₂ end
     report-put first second = rw report-parts (put-then first second)
 
 -- ---- any capture
@@ -49,12 +49,13 @@ first-count capture n c =
     ∙ ap (λ l. reportOn (handedOf Binary l)) (take-take mostRead mostRead capture (omega arith))
 
 -- a buffer that is too short is refused
-pub refused : (capture out : List ℕ) → length out < longestReport → Reported capture out (record { number = 9; length = 0 }) out
+pub refused : (capture out : List ℕ) → length out < longestReport
+    → Reported capture out (record { number = 9; length = 0 }) out
 refused capture out h = let e = lt-ltb (length out) longestReport h in record { says = rw e; leaves = rw e }
 
 -- and in any other the report is laid
-pub answered : (capture out out′ : List ℕ) (end : ℕ) → longestReport ≤ length out → Put out 0 (reportOf capture) out′ end
-    → Reported capture out (record { number = 0; length = end }) out′
+pub answered : (capture out out′ : List ℕ) (end : ℕ) → longestReport ≤ length out
+    → Put out 0 (reportOf capture) out′ end → Reported capture out (record { number = 0; length = end }) out′
 answered capture out out′ end h put =
     let e = le-ltb (length out) longestReport h in
     let n = length (reportOf capture) in
@@ -63,8 +64,8 @@ answered capture out out′ end h put =
     record { says = rw e (ap (λ (k : ℕ). record { number = 0; length = k }) ends); leaves = rw e (put-laid put fits) }
 
 -- so that it is the beginning of the buffer
-pub told : (capture out : List ℕ) (answer : Written) (out′ : List ℕ) → Reported capture out answer out′ → longestReport ≤ length out
-    → (answer .length ≤ length out′) × (take (answer .length) out′ ≡ reportOf capture)
+pub told : (capture out : List ℕ) (answer : Written) (out′ : List ℕ) → Reported capture out answer out′
+    → longestReport ≤ length out → (answer .length ≤ length out′) × (take (answer .length) out′ ≡ reportOf capture)
 told capture out answer out′ r h =
     let report = reportOf capture in
     let n = length report in

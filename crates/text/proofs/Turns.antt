@@ -53,7 +53,8 @@ pub array-whole : (capture t₀ : List ℕ) (i : ℕ) {r : Reader} {t : List ℕ
 array-whole capture t₀ i to = met (to .reached) .whole
 
 -- what a call adds that said this, with this reply
-pub record Turn (capture t₀ : List ℕ) (i : ℕ) (said : Said) (reply used : ℕ) (next : Reader) (after : List ℕ) : Type 0 where
+pub record Turn (capture t₀ : List ℕ) (i : ℕ) (said : Said) (reply used : ℕ) (next : Reader) (after : List ℕ)
+    : Type 0 where
   pub on : HeardTo capture t₀ (i + used) next after
   pub moves : 0 < used
   pub lines : linesOf (take (i + used) capture) ≡ linesOf (take i capture) ++ saidLines said reply
@@ -62,7 +63,8 @@ pub record Turn (capture t₀ : List ℕ) (i : ℕ) (said : Said) (reply used : 
 -- ---- one call
 
 -- a call with bytes to read uses one
-moves-by : (stream bs : List ℕ) (used : ℕ) (said : List Handed) → Uses Binary stream bs used said → 0 < length bs → 0 < used
+moves-by : (stream bs : List ℕ) (used : ℕ) (said : List Handed) → Uses Binary stream bs used said → 0 < length bs
+    → 0 < used
 moves-by stream bs (suc n) said w h = omega arith
 moves-by stream bs zero said w h =
     let before = handedOf Binary stream in
@@ -97,51 +99,53 @@ lines-within capture t₀ i {r} to =
     omega (arith, length-append (flatMap verdictLine first) (flatMap verdictLine later))
 
 -- the same call as a read of the bytes that are left
-module _ (capture t₀ : List ℕ) (i : ℕ) (r : Reader) (t : List ℕ) (size : length t₀ ≡ tableBytes) (to : HeardTo capture t₀ i r t)
-  where
-    -- it is heard to the call's last byte, where the reader and the table are those of the read
-    goes-on : let a = readOf r (drop i capture) in HeardTo capture t₀ (i + a .used) (a .reader) (tableAfter t (a .said))
-    goes-on =
-        let bs = drop i capture in
-        let hs = readOf r bs .said in
-        let w = used-rule (to .reached) bs in
-        let front = take-add i (readOf r bs .used) capture in
-        let first = handedOf Binary (take i capture) in
-        let hands = ap (handedOf Binary) front ∙ w .verdict in
-        record {
-          within = omega (arith, w .within, to .within, length-drop i capture);
-          reached = rw front (read bs (to .reached));
-          table = ap (λ l. tableAfter l hs) (to .table) ∙ sym (after-append t₀ first hs) ∙ ap (tableAfter t₀) (sym hands);
-        }
+module _ (capture t₀ : List ℕ) (i : ℕ) (r : Reader) (t : List ℕ) (to : HeardTo capture t₀ i r t) where
+  abbrev first : List Handed
+  first = handedOf Binary (take i capture)
 
-    pub turn : i < length capture → {next : Reader} {used : ℕ} {said : Said} {reply : Reply} {after : List ℕ}
-        → Hears r t (restOf capture i) next used said reply after → Turn capture t₀ i said (replyNumber reply) used next after
-    unfolding Whole
-    turn left {next} {used} {said} {reply} {after} hears =
-        let bs = drop i capture in
-        let hs = readOf r bs .said in
-        let w = used-rule (to .reached) bs in
-        let whole = ap length (to .table) ∙ after-length t₀ (handedOf Binary (take i capture)) ∙ size in
-        let e = ap (λ l. heardBy r t l) (rest-is capture i) ∙ heard-read r t bs whole (met (to .reached) .whole) in
-        let uses : used ≡ readOf r bs .used = rw e at (hears .uses) in
-        let on : HeardTo capture t₀ (i + used) next after =
-        rw (uses, hears .gives .next, hears .leaves, e) goes-on
-        in
-        let verdict : verdictsIn said ≡ map verdictFor hs = rw e at (hears .gives .verdict) in
-        let told : replyNumber reply ≡ replyTo hs = rw e at (hears .replies) in
-        let first = handedOf Binary (take i capture) in
-        let hands = ap (λ (n : ℕ). handedOf Binary (take (i + n) capture)) uses
-        ∙ ap (handedOf Binary) (take-add i (readOf r bs .used) capture) ∙ w .verdict in
-        let lines = ap (flatMap verdictLine) hands ∙ flatMap-append verdictLine first hs
-        ∙ ap (λ l. flatMap verdictLine first ++ l) (sym (said-lines said hs (replyNumber reply) verdict told)) in
-        record {
-          on = on;
-          moves = rw uses (moves-by (take i capture) bs (readOf r bs .used) hs w (omega (arith, length-drop i capture)));
-          lines = lines;
-          room = omega (
-            arith,
-            lines-within capture t₀ (i + used) on,
-            ap length lines,
-            length-append (flatMap verdictLine first) (saidLines said (replyNumber reply)),
-          );
-        }
+  -- what is handed out so far, with what the read says
+  hands : let a = readOf r (drop i capture) in handedOf Binary (take (i + a .used) capture) ≡ first ++ a .said
+  hands =
+      let bs = drop i capture in
+      ap (handedOf Binary) (take-add i (readOf r bs .used) capture) ∙ used-rule (to .reached) bs .verdict
+
+  -- it is heard to the read's last byte
+  goes-on : let a = readOf r (drop i capture) in HeardTo capture t₀ (i + a .used) (a .reader) (tableAfter t (a .said))
+  goes-on =
+      let bs = drop i capture in
+      let hs = readOf r bs .said in
+      record {
+        within = omega (arith, used-rule (to .reached) bs .within, to .within, length-drop i capture);
+        reached = rw (take-add i (readOf r bs .used) capture) (read bs (to .reached));
+        table = ap (λ l. tableAfter l hs) (to .table) ∙ sym (after-append t₀ first hs) ∙ ap (tableAfter t₀) (sym hands);
+      }
+
+  pub turn : length t₀ ≡ tableBytes → i < length capture
+      → {next : Reader} {used : ℕ} {said : Said} {reply : Reply} {after : List ℕ}
+      → Hears r t (restOf capture i) next used said reply after
+      → Turn capture t₀ i said (replyNumber reply) used next after
+  unfolding Whole
+  turn size left {next} {used} {said} {reply} {after} hears =
+      let bs = drop i capture in
+      let hs = readOf r bs .said in
+      let whole = ap length (to .table) ∙ after-length t₀ first ∙ size in
+      let e = ap (λ l. heardBy r t l) (rest-is capture i) ∙ heard-read r t bs whole (met (to .reached) .whole) in
+      let uses : used ≡ readOf r bs .used = rw e at (hears .uses) in
+      let on : HeardTo capture t₀ (i + used) next after = rw (uses, hears .gives .next, hears .leaves, e) goes-on in
+      let verdict : verdictsIn said ≡ map verdictFor hs = rw e at (hears .gives .verdict) in
+      let told : replyNumber reply ≡ replyTo hs = rw e at (hears .replies) in
+      let line = said-lines said hs (replyNumber reply) verdict told in
+      let lines : linesOf (take (i + used) capture) ≡ linesOf (take i capture) ++ saidLines said (replyNumber reply) =
+      rw uses
+      (ap (flatMap verdictLine) hands
+      ∙ flatMap-append verdictLine first hs
+      ∙ ap (λ l. flatMap verdictLine first ++ l) (sym line))
+      in
+      let some = moves-by (take i capture) bs (readOf r bs .used) hs (used-rule (to .reached) bs) in
+      let sum = length-append (linesOf (take i capture)) (saidLines said (replyNumber reply)) in
+      record {
+        on = on;
+        moves = rw uses (some (omega (arith, length-drop i capture)));
+        lines = lines;
+        room = omega (arith, lines-within capture t₀ (i + used) on, ap length lines, sum);
+      }

@@ -7,7 +7,8 @@ use Rattle.cards.proofs.verdicts.Statement.{statement}
 use Rattle.cards.proofs.verdicts.Tie as tie
 
 abbrev Inv-loop : tie.InvT-loop
-Inv-loop card bytes table₀ reader₀ place₀ calls₀ table reader place calls = (calls ≤ length bytes) × (length table ≡ length table₀)
+Inv-loop card bytes table₀ reader₀ place₀ calls₀ table reader place calls =
+    (calls ≤ length bytes) × (length table ≡ length table₀)
 
 abbrev μ-loop : tie.MeasureT-loop
 μ-loop card bytes table₀ reader₀ place₀ calls₀ table reader place calls = length bytes - calls

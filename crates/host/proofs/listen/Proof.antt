@@ -1,4 +1,5 @@
--- `host::listen` meets its contract: what `scan`, `store` and `reply` promise, put together by the laws of Answers. Assumes nothing.
+-- `host::listen` meets its contract: what `scan`, `store` and `reply` promise, put together by the laws of Answers.
+-- Assumes nothing.
 use Prim.Native.Nat.{_+_}
 use native.Mathlib.Omega.{arith}
 use mathlib.Core.Path.{_≡_, refl, _∙_}
@@ -85,7 +86,8 @@ unfolding tableAfter
 returns-3 c =
     let o = c .before .before .before .before in
     let s = start o in
-    hears (given s) (s .args .table .now) (s .args .bytes .now) (c .enum-told .given .1) (heard o) (o .scan .ensures) refl refl
+    hears (given s) (s .args .table .now) (s .args .bytes .now)
+    (c .enum-told .given .1) (heard o) (o .scan .ensures) refl refl
 
 same-length-2 : tie.Need-same-length-2
 same-length-2 c = search needs
@@ -100,7 +102,8 @@ returns-4 c =
     let o = scanned known in
     let s = start o in
     let v = known .said .given in
-    hears (given s) (s .args .table .now) (s .args .bytes .now) (v .1) (heard o) (o .scan .ensures) (c .reply .ensures) (put .store .ensures)
+    hears (given s) (s .args .table .now) (s .args .bytes .now)
+    (v .1) (heard o) (o .scan .ensures) (c .reply .ensures) (put .store .ensures)
 
 pub listen-spec : {M : Type 1} → statement M
 listen-spec =

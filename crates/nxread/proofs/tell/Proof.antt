@@ -1,4 +1,5 @@
--- The buffer has room for every report, so that none is refused, and what `report` says is the report's length. Assumes nothing.
+-- The buffer has room for every report, so that none is refused, and what `report` says is the report's length.
+-- Assumes nothing.
 use mathlib.Core.Path.{sym}
 use lib.Seq.{length-take-le}
 use borrow.Author.Needs.{needs}

@@ -34,7 +34,8 @@ put-decimal-requires c κs =
     let o = c .before .before .before in
     let test = o .before .before in
     let start = test .before .before in
-    omega (arith, ap length (heard-some (start .args .heard) (start .args .faulted) (test .if1 .left)), start .pre, o .put .ensures .end)
+    let some = heard-some (start .args .heard) (start .args .faulted) (test .if1 .left) in
+    omega (arith, ap length some, start .pre, o .put .ensures .end)
 
 same-length-2 : tie.Need-same-length-2
 same-length-2 c = search needs
@@ -43,7 +44,8 @@ returns-2 : tie.Need-returns-2
 returns-2 c =
     let second = c .before .before in
     let first = second .before .before .before .before in
-    rw (heard-some _ _ (first .before .before .if1 .left)) (put-then (first .put .ensures) (second .put-decimal .ensures))
+    let whole = put-then (first .put .ensures) (second .put-decimal .ensures) in
+    rw (heard-some _ _ (first .before .before .if1 .left)) whole
 
 pub put-faulted-spec : {M : Type 1} → statement M
 put-faulted-spec =

@@ -11,8 +11,9 @@ use Rattle.text.proofs.put_group.Tie as tie
 
 -- there is room for the fields and what stands between them
 room : (s : tie.Start)
-    → let fields = length (decimal (s .args .group)) + length (decimal (s .args .heard)) in
-    s .args .place + (fields + length (faultedText (s .args .heard) (s .args .faulted)) + 3) ≤ length (s .args .out .now)
+    → let a = s .args in
+    let counts = length (decimal (a .heard)) + length (faultedText (a .heard) (a .faulted)) in
+    a .place + (length (decimal (a .group)) + counts + 3) ≤ length (a .out .now)
 room s = omega (arith, counts-length (s .args .group) (s .args .heard) (s .args .faulted), s .pre)
 
 put-decimal-requires : tie.Need-put-decimal-requires
@@ -67,7 +68,8 @@ returns c =
     let third = fourth .before .before .before .before in
     let second = third .before .before .before .before in
     let first = second .before .before .before .before in
-    let counts = put-then (first .put-decimal .ensures) (put-then (second .put .ensures) (third .put-decimal2 .ensures)) in
+    let heard = put-then (second .put .ensures) (third .put-decimal2 .ensures) in
+    let counts = put-then (first .put-decimal .ensures) heard in
     put-then (put-then counts (fourth .put-faulted .ensures)) (fifth .put2 .ensures)
 
 pub put-group-spec : {M : Type 1} → statement M

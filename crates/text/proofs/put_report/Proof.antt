@@ -1,4 +1,5 @@
--- The lines of the verdicts, and those of the groups after them: both have room where the longest report has. Assumes nothing.
+-- The lines of the verdicts, and those of the groups after them: both have room where the longest report has.
+-- Assumes nothing.
 use Prim.Native.Nat.{ℕ, _+_, _≤_}
 use native.Mathlib.Omega.{arith}
 use mathlib.Core.Path.{_≡_, refl, ap, _∙_}
@@ -45,7 +46,8 @@ put-verdicts-requires : tie.Need-put-verdicts-requires
 put-verdicts-requires c κs =
     let s = c .before .before .before .before .before in
     let capture = s .args .capture .now in
-    (search needs, omega (arith, parts-fit capture (s .pre .0) (tableAfter fresh (handedOf Binary capture)) refl, s .pre .1))
+    let table = tableAfter fresh (handedOf Binary capture) in
+    (search needs, omega (arith, parts-fit capture (s .pre .0) table refl, s .pre .1))
 
 slice-aggregate-put-groups : tie.Need-slice-aggregate-put-groups
 slice-aggregate-put-groups c = search needs
@@ -63,7 +65,8 @@ returns : tie.Need-returns
 returns c =
     let groups = c .before .before in
     let o = groups .before .before .before .before .before .before in
-    report-put (captureIn o) (start o .pre .0) (tableIn o) (heard o) (o .put-verdicts .ensures .0) (groups .put-groups .ensures)
+    report-put (captureIn o) (start o .pre .0) (tableIn o) (heard o)
+    (o .put-verdicts .ensures .0) (groups .put-groups .ensures)
 
 pub put-report-spec : {M : Type 1} → statement M
 put-report-spec =

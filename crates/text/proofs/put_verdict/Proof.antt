@@ -61,8 +61,8 @@ returns c =
     let third = fourth .before .before .before .before in
     let second = third .before .before .before .before in
     let first = second .before .before .before .before in
-    let fields = put-then (put-then (first .put-decimal .ensures) (second .put-type .ensures)) (third .put-reply .ensures) in
-    put-then fields (fourth .put .ensures)
+    let fields = put-then (first .put-decimal .ensures) (second .put-type .ensures) in
+    put-then (put-then fields (third .put-reply .ensures)) (fourth .put .ensures)
 
 pub put-verdict-spec : {M : Type 1} → statement M
 put-verdict-spec =

@@ -1,5 +1,5 @@
--- The loop's invariant: the first `used` bytes are heard, their good messages put into the table, and the lines of their
--- verdicts into the buffer. Assumes nothing.
+-- The loop's invariant: the first `used` bytes are heard, their good messages put into the table, and the lines of
+-- their verdicts into the buffer. Assumes nothing.
 use Prim.Native.Nat.{ℕ, _+_, _-_}
 use native.Mathlib.Omega.{arith}
 use mathlib.Core.Path.{_≡_, refl, sym, ap, _∙_}
@@ -40,13 +40,15 @@ start c = c .before .before .before .before
 turned : (c : tie.After-listen Inv-loop μ-loop)
     → let a = start (head c) .args in
     let answer = c .listen .result in
-    Turn (a .capture .now) (a .table .now) (head c .loop .used) (answer .said) (replyNumber (answer .reply)) (answer .used)
+    Turn (a .capture .now) (a .table .now) (head c .loop .used)
+    (answer .said) (replyNumber (answer .reply)) (answer .used)
     (readerOf (answer .mode) (answer .held) (c .listen .last .1 .1 .0)) (c .listen .last .1 .1 .1 .0)
 turned c =
     let loop = head c .loop in
     let s = start (head c) in
-    turn (s .args .capture .now) (s .args .table .now) (loop .used) (readerOf (loop .mode) (loop .held) (loop .frame)) (loop .table)
-    (s .pre .0) (loop .inv .0) (c .before .before .before .before .loop-test .taken) (c .listen .ensures)
+    let r = readerOf (loop .mode) (loop .held) (loop .frame) in
+    turn (s .args .capture .now) (s .args .table .now) (loop .used) r (loop .table) (loop .inv .0) (s .pre .0)
+    (c .before .before .before .before .loop-test .taken) (c .listen .ensures)
 
 loop-holds : tie.Need-loop-holds Inv-loop μ-loop
 unfolding flatMap

@@ -13,7 +13,8 @@ abbrev start : tie.After-counting → tie.Start
 start c = c .before .before .before .before
 
 -- so many bytes are lent
-size : (c : tie.After-counting) → length (take (c .counting .result) (start c .args .capture .now)) ≡ c .counting .result
+size : (c : tie.After-counting)
+    → let n = c .counting .result in length (take n (start c .args .capture .now)) ≡ n
 size c = length-take-le (c .counting .result) (start c .args .capture .now) (c .counting .ensures .within)
 
 returns : tie.Need-returns
