@@ -4,17 +4,7 @@
 use libc::STDOUT_FILENO;
 use reader::Reader;
 use standard::Framing;
-use standard::Reply;
 use standard::Said;
-
-fn reply_number(reply: Reply) -> u64 {
-    match reply {
-        Reply::Nothing => 0,
-        Reply::Acknowledge => 0x1D,
-        Reply::NegativeAcknowledge => 0x1E,
-        Reply::Rejected => 0x1F,
-    }
-}
 
 fn line(card: u64, first: u64, second: u64) {
     io::print_decimal(STDOUT_FILENO, card);
@@ -45,24 +35,28 @@ fn zones(card: u64, table: &[u8]) {
 // The verdicts of a line, call by call; at most one call for each byte.
 fn verdicts(card: u64, framing: Framing, bytes: &[u8], table: &mut [u8]) {
     let mut reader = Reader::fresh(framing);
-    let mut at = 0;
+    let mut place = 0;
     let mut calls = 0;
     while calls < bytes.len() {
-        if bytes.len() < at {
+        if bytes.len() < place {
             return;
         }
-        let hearing = host::hear(reader, table, &bytes[at..]);
+        let hearing = host::hear(reader, table, &bytes[place..]);
         let said = hearing.said;
         let reply = hearing.reply;
         if let Said::Gave(verdict) = said {
-            line(card, wide(verdict.number), reply_number(reply));
+            line(
+                card,
+                wide(verdict.number),
+                wide(standard::reply_number(reply)),
+            );
         }
         reader = hearing.reader;
         let used = hearing.used;
-        if bytes.len() - at < used {
+        if bytes.len() - place < used {
             return;
         }
-        at += used;
+        place += used;
         calls += 1;
     }
 }

@@ -2,21 +2,21 @@
 use libc::STDIN_FILENO;
 use libc::STDOUT_FILENO;
 ghost use mathlib.Core.Path.{_≡_};
-ghost use Prim.Native.Nat.{_≤_};
+ghost use Prim.Native.Nat.{_+_, _≤_};
 ghost use lib.ListN.{length, take};
 ghost use Rattle.io.specs.Counts.{Counts};
-ghost use Rattle.standard.specs.Report.{reportOf};
+ghost use Rattle.standard.specs.Report.{reportOf, longestReport};
 
 // Room for every report.
-fn room() -> [u8; 524447]
-    ensures { λ r. ⌜ 524447 ≡ length r ⌝ }
+fn room() -> [u8; text::LONGEST_REPORT]
+    ensures { λ r. ⌜ longestReport ≡ length r ⌝ }
 {
-    [0; 524447]
+    [0; text::LONGEST_REPORT]
 }
 
 // The whole report of a capture, at the beginning of a buffer that has room for every report.
 fn tell(capture: &[u8], out: &mut [u8]) -> usize
-    requires { ⌜ 524447 ≤ length (now out) ⌝ }
+    requires { ⌜ longestReport ≤ length (now out) ⌝ }
     ensures { λ r. ⌜ take r (now (out .exit)) ≡ reportOf (now (capture .entry)) ⌝ }
     ensures { λ r. ⌜ Counts r (now (out .exit)) ⌝ }
 {

@@ -1,6 +1,6 @@
--- Laws of the report: how long it is, for every capture. A verdict of a stream is one of 0 to 8, so each verdict line has 8 bytes; a capture of n
--- bytes has at most n - 1 verdicts, since a start byte that ends it gives none; and the group lines are longest where nothing is heard.
--- Assumes nothing.
+-- Laws of the report: how long it is, for every capture. A verdict of a stream is one of 0 to 8, so each verdict line
+-- has 8 bytes; a capture of n bytes has at most n - 1 verdicts, since a start byte that ends it gives none; and the
+-- group lines are longest where nothing is heard. Assumes nothing.
 use Prim.Native.Nat.{ℕ, zero, suc, _+_, _-_, _*_, _/_, _%_, _≤_, _<_, zero-le}
 use native.Mathlib.Omega.{arith}
 use mathlib.Core.Path.{_≡_, refl, ap, _∙_}
@@ -9,6 +9,7 @@ use mathlib.Core.Option.{Option, none, some}
 use mathlib.Core.List.{List, [], _∷_, _++_, map, flatMap, append-nil}
 use lib.Dec.{eqb, leb, ltb, eqb·suc-zero}
 use lib.ListN.{length, take, drop, replicate, length-append, length-take, length-replicate}
+use lib.Seq.{take-all}
 use borrow.Author.Tests.{lt-ltb, le-ltb, leb-true}
 use Rattle.standard.specs.declared.Framing.{Framing}
 use Rattle.standard.specs.declared.Framing.the-variants.{Binary, Ascii}
@@ -23,7 +24,7 @@ use Rattle.standard.specs.Overview.{heardOf, faultedOf, groupNumbers}
 use Rattle.standard.proofs.Words.{flatMap-append}
 use Rattle.standard.proofs.Messages.{both-true}
 use Rattle.standard.proofs.Judge.{unstuff-fault}
-use Rattle.standard.specs.Report.{mostRead, decimal, typeText, replyText, minus9999, verdictLine, groupLine, reportOn, reportOf}
+use Rattle.standard.specs.Report.{mostRead, decimal, typeText, replyText, lineWith, verdictLine, countsLine, groupLine, reportOn, reportOf, longestReport}
 
 -- lines of which each has at most so many bytes
 flatMap-le : {A : Type 0} (f : A → List ℕ) (most : A → ℕ) → ((x : A) → length (f x) ≤ most x) → (l : List A)
@@ -42,7 +43,8 @@ numbersWithin most (test ∷ tests) = leb (test .1) most && numbersWithin most t
 first-within : (most : ℕ) (tests : List (Bool × ℕ)) → numbersWithin most tests ≡ true → firstOf tests ≤ most
 first-within most [] h = zero-le
 first-within most ((true, n) ∷ tests) h = leb-true n most (both-true (leb n most) (numbersWithin most tests) h .0)
-first-within most ((false, n) ∷ tests) h = first-within most tests (both-true (leb n most) (numbersWithin most tests) h .1)
+first-within most ((false, n) ∷ tests) h =
+    first-within most tests (both-true (leb n most) (numbersWithin most tests) h .1)
 
 abbrev OnSheet : Judged → Type 0
 OnSheet (decided h) = h .verdict ≤ 8
@@ -51,7 +53,8 @@ OnSheet unfinished = Unit
 stop-sheet : (cs : List ℕ) (L : ℕ) (rest : List ℕ) → OnSheet (atStop cs L rest)
 unfolding wholeOf
 stop-sheet [] L rest = tt
-stop-sheet (c ∷ cs) L rest = first-within 8 ((not (eqb c 0x0D), 3) ∷ (sumsDiffer L rest, 5) ∷ messageTests (take L rest)) refl
+stop-sheet (c ∷ cs) L rest =
+    first-within 8 ((not (eqb c 0x0D), 3) ∷ (sumsDiffer L rest, 5) ∷ messageTests (take L rest)) refl
 
 ended-sheet : (f : Framing) (after : List ℕ) (L : ℕ) (rest : List ℕ) → OnSheet (ended f after L rest)
 unfolding wholeOf
@@ -79,7 +82,8 @@ frame-sheet (L ∷ rest) fault end s e = by (lengthOk L) (ltb (length rest) (L +
 pub judge-sheet : (f : Framing) (part : List ℕ) → OnSheet (judge f part)
 judge-sheet f part =
     let after = drop 1 part in
-    frame-sheet (recovered f after .bytes) (recovered f after .fault) (ended f after) (fault-sheet f after) (ended-sheet f after)
+    let r = recovered f after in
+    frame-sheet (r .bytes) (r .fault) (ended f after) (fault-sheet f after) (ended-sheet f after)
 
 -- ---- how long the lines are
 
@@ -100,14 +104,16 @@ pub reply-length : (reply : ℕ) → length (replyText reply) ≡ 2
 reply-length reply = either-two (eqb reply 0) _ _ _ _
 
 -- the verdict, two bytes for each other field, two spaces and the line's end
-pub line-length : (h : Handed) → length (verdictLine h) ≡ length (decimal (h .verdict)) + 7
-line-length h =
+pub line-length : (h : Handed) (reply : ℕ) → length (lineWith h reply) ≡ length (decimal (h .verdict)) + 7
+line-length h reply =
     let a = type-length h in
-    let b = reply-length (replyOf (h .verdict) (h .typeByte)) in
+    let b = reply-length reply in
     simp length-append (omega arith)
 
 verdict-length : (h : Handed) → h .verdict ≤ 8 → length (verdictLine h) ≡ 8
-verdict-length h small = let e = ap length (one-digit (h .verdict) (omega arith)) in let f = line-length h in omega arith
+verdict-length h small =
+    let e = ap length (one-digit (h .verdict) (omega arith)) in
+    omega (arith, line-length h (replyOf (h .verdict) (h .typeByte)))
 
 -- the line of a part's verdict, and those of all
 one-length : (h : Handed) → h .verdict ≤ 8 → length (flatMap verdictLine (h ∷ [])) ≡ 8
@@ -121,7 +127,8 @@ part-length (decided h) later small = one-length h small
 part-length unfinished [] small = refl
 part-length unfinished (part ∷ later) small = one-length (handing 1 []) (omega arith)
 
-parts-length : (f : Framing) (parts : List (List ℕ)) → length (flatMap verdictLine (partsHand f parts)) ≡ 8 * length (partsHand f parts)
+parts-length : (f : Framing) (parts : List (List ℕ))
+    → length (flatMap verdictLine (partsHand f parts)) ≡ 8 * length (partsHand f parts)
 unfolding flatMap
 parts-length f [] = refl
 parts-length f (part ∷ later) =
@@ -129,7 +136,8 @@ parts-length f (part ∷ later) =
     let b = parts-length f later in
     simp (flatMap-append, length-append) (omega arith)
 
-pub verdicts-length : (f : Framing) (stream : List ℕ) → length (flatMap verdictLine (handedOf f stream)) ≡ 8 * length (handedOf f stream)
+verdicts-length : (f : Framing) (stream : List ℕ)
+    → length (flatMap verdictLine (handedOf f stream)) ≡ 8 * length (handedOf f stream)
 verdicts-length f stream = parts-length f (partsOf (startOf f) stream)
 
 decimal-length : (n : ℕ) → length (decimal n) ≤ 2
@@ -143,9 +151,7 @@ decimal-length n = by (ltb n 10)
 group-length : (t : List ℕ) (k : ℕ) → length (groupLine t k) ≤ length (decimal k) + 9
 group-length t k = by (heardOf t k)
   where
-    by : (heard : ℕ)
-        → length (decimal k ++ (0x20 ∷ decimal heard) ++ (0x20 ∷ cond (eqb heard 0) minus9999 (decimal (faultedOf t k))) ++ (0x0A ∷ []))
-        ≤ length (decimal k) + 9
+    by : (heard : ℕ) → length (countsLine k heard (faultedOf t k)) ≤ length (decimal k) + 9
     by zero = simp length-append (omega arith)
     by (suc n) =
         let a = decimal-length (suc n) in
@@ -185,27 +191,27 @@ few-after f b (c ∷ cs) = by (eqb b (startOf f)) (partsOf (startOf f) (c ∷ cs
     by false later h = omega arith
 
 -- each start byte gives at most one verdict, and one that ends the stream none
-pub verdicts-few : (f : Framing) (stream : List ℕ) → length (handedOf f stream) ≤ length stream - 1
+verdicts-few : (f : Framing) (stream : List ℕ) → length (handedOf f stream) ≤ length stream - 1
 verdicts-few f [] = zero-le
 verdicts-few f (b ∷ bs) = let h = few-after f b bs in omega arith
 
 -- ---- the whole report
 
-pub report-length : (stream : List ℕ)
+report-length : (stream : List ℕ)
     → let hs = handedOf Binary stream in
     length (reportOn hs) ≡ 8 * length hs + length (flatMap (groupLine (tableAfter fresh hs)) groupNumbers)
 unfolding reportOn
 report-length stream = let e = verdicts-length Binary stream in simp length-append (omega arith)
 
 -- THE ROOM that is enough for every capture
-pub room : (capture : List ℕ) → length (reportOf capture) ≤ 524447
+pub room : (capture : List ℕ) → length (reportOf capture) ≤ longestReport
 room capture =
     let stream = take mostRead capture in
     let few = verdicts-few Binary stream in
     let groups = groups-length (tableAfter fresh (handedOf Binary stream)) in
     omega (arith, report-length stream, length-take mostRead capture)
 
--- no less would do: of n + 1 start bytes each but the last is cut short, and nothing is heard
+-- of n + 1 start bytes each but the last is cut short, and nothing is heard
 starts-hand : (n : ℕ) → handedOf Binary (replicate (suc n) 0x7E) ≡ replicate n (handing 1 [])
 unfolding unstuff
 starts-hand zero = refl
@@ -220,9 +226,24 @@ fresh-length : length (flatMap (groupLine fresh) groupNumbers) ≡ 167
 unfolding flatMap upTo total heardOf fresh
 fresh-length = refl
 
-pub room-reached : (n : ℕ) → length (reportOn (handedOf Binary (replicate (suc n) 0x7E))) ≡ 8 * n + 167
-room-reached n =
+starts-length : (n : ℕ) → length (reportOn (handedOf Binary (replicate (suc n) 0x7E))) ≡ 8 * n + 167
+starts-length n =
     let many = ap length (starts-hand n) ∙ length-replicate n (handing 1 []) in
     let table = ap (tableAfter fresh) (starts-hand n) ∙ starts-leave fresh n in
     let groups = ap (λ t. length (flatMap (groupLine t) groupNumbers)) table ∙ fresh-length in
     omega (arith, report-length (replicate (suc n) 0x7E))
+
+-- the report on start bytes alone, as many as are read, is the longest
+pub room-reached : (n : ℕ) → suc n ≡ mostRead → length (reportOf (replicate (suc n) 0x7E)) ≡ longestReport
+room-reached n h =
+    let starts : List ℕ = replicate (suc n) 0x7E in
+    let fits : length starts ≤ mostRead = omega (arith, h, length-replicate {A = ℕ} (suc n) 0x7E) in
+    let all = ap (λ l. length (reportOn (handedOf Binary l))) (take-all mostRead starts fits) in
+    omega (arith, all, starts-length n, h)
+
+-- NO LESS ROOM is enough
+pub no-less : (n : ℕ) → ((capture : List ℕ) → length (reportOf capture) ≤ n) → longestReport ≤ n
+no-less n h = by-starts (mostRead - 1) refl
+  where
+    by-starts : (k : ℕ) → suc k ≡ mostRead → longestReport ≤ n
+    by-starts k e = omega (arith, room-reached k e, h (replicate (suc k) 0x7E))

@@ -35,19 +35,27 @@ typeText h = cond (carriesType (h .verdict)) (twoDigits (h .typeByte % 128)) das
 abbrev pub replyText : ℕ → List ℕ
 replyText reply = cond (eqb reply 0) dashes (twoDigits reply)
 
--- "One space parts fields, 0Ah ends each line"
+-- "One space parts fields, 0Ah ends each line": the line of a verdict that gets this reply
+abbrev pub lineWith : Handed → ℕ → List ℕ
+lineWith h reply = decimal (h .verdict) ++ (0x20 ∷ typeText h) ++ (0x20 ∷ replyText reply) ++ (0x0A ∷ [])
+
 abbrev pub verdictLine : Handed → List ℕ
-verdictLine h =
-    decimal (h .verdict) ++ (0x20 ∷ typeText h) ++ (0x20 ∷ replyText (replyOf (h .verdict) (h .typeByte))) ++ (0x0A ∷ [])
+verdictLine h = lineWith h (replyOf (h .verdict) (h .typeByte))
 
 -- minus 9999, which "exists only in print"
 abbrev pub minus9999 : List ℕ
 minus9999 = 0x2D ∷ 0x39 ∷ 0x39 ∷ 0x39 ∷ 0x39 ∷ []
 
+abbrev pub faultedText : ℕ → ℕ → List ℕ
+faultedText heard faulted = cond (eqb heard 0) minus9999 (decimal faulted)
+
 -- "group, heard, faulted; or group, 0, -9999"
+abbrev pub countsLine : ℕ → ℕ → ℕ → List ℕ
+countsLine group heard faulted =
+    decimal group ++ (0x20 ∷ decimal heard) ++ (0x20 ∷ faultedText heard faulted) ++ (0x0A ∷ [])
+
 abbrev pub groupLine : List ℕ → ℕ → List ℕ
-groupLine t k =
-    decimal k ++ (0x20 ∷ decimal (heardOf t k)) ++ (0x20 ∷ cond (eqb (heardOf t k) 0) minus9999 (decimal (faultedOf t k))) ++ (0x0A ∷ [])
+groupLine t k = countsLine k (heardOf t k) (faultedOf t k)
 
 -- "For each verdict one line", "then a line for each group"
 unfoldable pub reportOn : List Handed → List ℕ
@@ -59,16 +67,20 @@ reportOf capture = reportOn (handedOf Binary (take mostRead capture))
 
 -- ---- the report in a lent buffer
 
--- 9: "does not fit"; "a refusal says length 0"
+-- the bytes of the longest report: every report fits in so many, and one has as many
+abbrev pub longestReport : ℕ
+longestReport = 524447
+
+-- 9, where the buffer is shorter than the longest report; "a refusal says length 0"
 abbrev pub reportedOf : List ℕ → List ℕ → Written
 reportedOf capture out =
-    cond (ltb (length out) (length (reportOf capture)))
+    cond (ltb (length out) longestReport)
     (record { number = 9; length = 0 })
     (record { number = 0; length = length (reportOf capture) })
 
 -- the report at the beginning of the buffer, whose other bytes stay; a refusal leaves it
 abbrev pub afterReport : List ℕ → List ℕ → List ℕ
-afterReport capture out = cond (ltb (length out) (length (reportOf capture))) out (laid out 0 (reportOf capture))
+afterReport capture out = cond (ltb (length out) longestReport) out (laid out 0 (reportOf capture))
 
 -- what `report` promises: its answer, and every byte of the buffer
 pub record Reported (capture out : List ℕ) (answer : Written) (after : List ℕ) : Type 0 where

@@ -10,9 +10,8 @@ use borrow.Author.Tests.{eq-eqb, ne-eqb}
 use Rattle.standard.specs.declared.Group.{Group}
 use Rattle.standard.specs.Words.{upTo}
 use Rattle.standard.specs.Overview.{Counted, counted, heardOf, faultedOf, groupNumbers, groupValues}
-use Rattle.standard.specs.Report.{decimal, minus9999, groupLine}
+use Rattle.standard.specs.Report.{decimal, minus9999, faultedText, countsLine, groupLine}
 use Rattle.standard.proofs.Words.{flatMap-append, map-more}
-use Rattle.text.specs.Lines.{faultedText, countsLine}
 
 pub not-heard : (heard faulted : ℕ) → heard ≡ 0 → faultedText heard faulted ≡ minus9999
 not-heard heard faulted h = rw (eq-eqb heard 0 h)
@@ -21,7 +20,8 @@ pub heard-some : (heard faulted : ℕ) → (heard ≡ 0 → ⊥) → faultedText
 heard-some heard faulted h = rw (ne-eqb heard 0 h)
 
 pub counts-length : (group heard faulted : ℕ)
-    → length (countsLine group heard faulted) ≡ length (decimal group) + length (decimal heard) + length (faultedText heard faulted) + 3
+    → let counts = length (decimal heard) + length (faultedText heard faulted) in
+    length (countsLine group heard faulted) ≡ length (decimal group) + counts + 3
 counts-length group heard faulted = simp length-append (omega arith)
 
 -- ---- the loop
@@ -45,7 +45,8 @@ lines-le line k (suc n) =
     rw (add-suc, ← add-one (k + n)) (omega arith)
 
 -- room for all is room for the next
-pub lines-room : (line : ℕ → List ℕ) (k : ℕ) → k < 16 → length (firstLines line k) + length (line (suc k)) ≤ length (flatMap line groupNumbers)
+pub lines-room : (line : ℕ → List ℕ) (k : ℕ) → k < 16
+    → length (firstLines line k) + length (line (suc k)) ≤ length (flatMap line groupNumbers)
 lines-room line k h =
     let e = ap length (lines-more line k) ∙ length-append (firstLines line k) (line (suc k)) in
     let whole : k + 1 + (15 - k) ≡ 16 = omega arith in

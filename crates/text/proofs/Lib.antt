@@ -1,4 +1,3 @@
-pub mod Puts
 pub mod Groups
 pub mod Turns
 pub mod Reports

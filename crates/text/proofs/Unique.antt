@@ -1,9 +1,11 @@
--- Two answers that meet the promise of `report` are equal, and leave the buffer alike. Assumes nothing.
-use Prim.Native.Nat.{ℕ}
+-- Two answers that meet the contract of `report` are equal, and leave the buffer alike. Assumes nothing.
 use mathlib.Core.Path.{_≡_, sym, _∙_}
-use mathlib.Core.List.{List}
-use Rattle.standard.specs.declared.Written.{Written}
-use Rattle.standard.specs.Report.{Reported}
+use borrow.Fn.Kinds.{Dens, endedOf, resT}
+use contract.Lifetimes.{Lfts}
+use denote.Triple.Clauses.{AtExit}
+use Rattle.text.proofs.report.Kinds.{ps, r}
+use Rattle.text.proofs.report.Reads.{Post}
 
-pub report-unique : (capture out : List ℕ) (a b : Written) (x y : List ℕ) → Reported capture out a x → Reported capture out b y → (a ≡ b) × (x ≡ y)
-report-unique capture out a b x y p q = (p .says ∙ sym (q .says), p .leaves ∙ sym (q .leaves))
+pub report-unique : (κs : Lfts 2) (a : Dens κs ps) (e e′ : AtExit (endedOf 2 ps r) κs) (x y : resT r κs .Denot)
+    → Post κs a x e → Post κs a y e′ → (x ≡ y) × (e .1 .0 .now ≡ e′ .1 .0 .now)
+report-unique κs a e e′ x y p q = (p .says ∙ sym (q .says), p .leaves ∙ sym (q .leaves))

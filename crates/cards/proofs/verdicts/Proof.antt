@@ -7,10 +7,11 @@ use Rattle.cards.proofs.verdicts.Statement.{statement}
 use Rattle.cards.proofs.verdicts.Tie as tie
 
 abbrev Inv-loop : tie.InvT-loop
-Inv-loop card bytes table₀ reader₀ at₀ calls₀ table reader at calls = (calls ≤ length bytes) × (length table ≡ length table₀)
+Inv-loop card bytes table₀ reader₀ place₀ calls₀ table reader place calls =
+    (calls ≤ length bytes) × (length table ≡ length table₀)
 
 abbrev μ-loop : tie.MeasureT-loop
-μ-loop card bytes table₀ reader₀ at₀ calls₀ table reader at calls = length bytes - calls
+μ-loop card bytes table₀ reader₀ place₀ calls₀ table reader place calls = length bytes - calls
 
 fresh-requires : tie.Need-fresh-requires Inv-loop μ-loop
 fresh-requires c κs = search needs
@@ -45,6 +46,9 @@ wide-requires c κs = search needs
 reply-number-requires : tie.Need-reply-number-requires Inv-loop μ-loop
 reply-number-requires c κs = search needs
 
+wide-requires-2 : tie.Need-wide-requires-2 Inv-loop μ-loop
+wide-requires-2 c κs = search needs
+
 line-requires : tie.Need-line-requires Inv-loop μ-loop
 line-requires c κs = search needs
 
@@ -60,8 +64,8 @@ same-length-2 c = search needs
 returns-2 : tie.Need-returns-2 Inv-loop μ-loop
 returns-2 c = search needs
 
-add-at : tie.Need-add-at Inv-loop μ-loop
-add-at c = search needs
+add-place : tie.Need-add-place Inv-loop μ-loop
+add-place c = search needs
 
 add-calls : tie.Need-add-calls Inv-loop μ-loop
 add-calls c = search needs
@@ -95,12 +99,13 @@ verdicts-spec =
     enum-known-said
     wide-requires
     reply-number-requires
+    wide-requires-2
     line-requires
     enum-told
     sub-if2
     same-length-2
     returns-2
-    add-at
+    add-place
     add-calls
     loop-less
     loop-again

@@ -1,12 +1,8 @@
--- The buffer has room for every report, so that none is refused, and what `report` says is the report's length. Assumes nothing.
-use Prim.Native.Nat.{_≤_}
-use native.Mathlib.Omega.{arith}
+-- The buffer has room for every report, so that none is refused, and what `report` says is the report's length.
+-- Assumes nothing.
 use mathlib.Core.Path.{sym}
-use lib.ListN.{length}
 use lib.Seq.{length-take-le}
 use borrow.Author.Needs.{needs}
-use Rattle.standard.specs.Report.{reportOf}
-use Rattle.standard.proofs.Report.{room}
 use Rattle.text.proofs.Reports.{told}
 use Rattle.nxread.proofs.tell.Statement.{statement}
 use Rattle.nxread.proofs.tell.Tie as tie
@@ -21,10 +17,7 @@ returns : tie.Need-returns
 returns c =
     let o = c .before .before in
     let start = o .before .before .before .before in
-    let capture = start .args .capture .now in
-    let out = start .args .out .now in
-    let fits : length (reportOf capture) ≤ length out = omega (arith, room capture, start .pre) in
-    let told = told capture out (o .report .result) (o .report .last .1 .0) (o .report .ensures) fits in
+    let told = told (start .args .capture .now) (start .args .out .now) _ _ (o .report .ensures) (start .pre) in
     (told .1, (told .0, sym (length-take-le _ _ (told .0))))
 
 pub tell-spec : {M : Type 1} → statement M

@@ -8,11 +8,11 @@ use borrow.Author.Needs.{needs}
 use Rattle.text.proofs.put_faulted.Statement.{statement}
 use Rattle.text.proofs.put_faulted.Tie as tie
 
-slice-aggregate-put-all : tie.Need-slice-aggregate-put-all
-slice-aggregate-put-all c = search needs
+slice-aggregate-put-part : tie.Need-slice-aggregate-put-part
+slice-aggregate-put-part c = search needs
 
-put-all-requires : tie.Need-put-all-requires
-put-all-requires c κs =
+put-part-requires : tie.Need-put-part-requires
+put-part-requires c κs =
     let test = c .before .before in
     let start = test .before .before in
     omega (arith, ap length (not-heard (start .args .heard) (start .args .faulted) (test .if1 .taken)), start .pre)
@@ -24,7 +24,7 @@ returns : tie.Need-returns
 returns c =
     let o = c .before .before in
     let test = o .before .before .before in
-    rw (not-heard _ _ (test .if1 .taken)) (o .put-all .ensures)
+    rw (not-heard _ _ (test .if1 .taken)) (o .put-part .ensures)
 
 put-requires : tie.Need-put-requires
 put-requires c κs = search needs
@@ -34,7 +34,8 @@ put-decimal-requires c κs =
     let o = c .before .before .before in
     let test = o .before .before in
     let start = test .before .before in
-    omega (arith, ap length (heard-some (start .args .heard) (start .args .faulted) (test .if1 .left)), start .pre, o .put .ensures .end)
+    let some = heard-some (start .args .heard) (start .args .faulted) (test .if1 .left) in
+    omega (arith, ap length some, start .pre, o .put .ensures .end)
 
 same-length-2 : tie.Need-same-length-2
 same-length-2 c = search needs
@@ -43,14 +44,15 @@ returns-2 : tie.Need-returns-2
 returns-2 c =
     let second = c .before .before in
     let first = second .before .before .before .before in
-    rw (heard-some _ _ (first .before .before .if1 .left)) (put-then (first .put .ensures) (second .put-decimal .ensures))
+    let whole = put-then (first .put .ensures) (second .put-decimal .ensures) in
+    rw (heard-some _ _ (first .before .before .if1 .left)) whole
 
 pub put-faulted-spec : {M : Type 1} → statement M
 put-faulted-spec =
     tie.close
     (tie.spec
-    slice-aggregate-put-all
-    put-all-requires
+    slice-aggregate-put-part
+    put-part-requires
     same-length
     returns
     put-requires

@@ -1,7 +1,8 @@
--- The loop's invariant: the lines of the first `index` groups are put. Each group's counts are those of the overview, which are the table's. Assumes nothing.
+-- The loop's invariant: the lines of the first `index` groups are put. Each group's counts are those of the overview,
+-- which are the table's. Assumes nothing.
 use Prim.Native.Nat.{ℕ, suc, _+_, _-_, _≤_}
 use native.Mathlib.Omega.{arith}
-use mathlib.Core.Path.{_≡_, refl, ap}
+use mathlib.Core.Path.{_≡_, ap}
 use mathlib.Core.List.{List, flatMap}
 use lib.Ieee.{nan}
 use lib.ListN.{length, getD}
@@ -9,38 +10,41 @@ use Rattle.standard.specs.declared.Group.{Group}
 use Rattle.standard.specs.declared.Share.the-variants.{Share as IsShare}
 use Rattle.standard.specs.Words.{upTo, Put}
 use Rattle.standard.specs.Overview.{Counted, counted, heardOf, faultedOf, groupValues}
-use Rattle.standard.specs.Report.{groupLine}
-use Rattle.standard.proofs.Put.{put-then, put-length}
-use Rattle.standard.proofs.Report.{groups-length}
+use Rattle.standard.specs.Report.{countsLine, groupLine}
+use Rattle.standard.proofs.Put.{put-none, put-then, put-length}
 use Rattle.standard.proofs.Seen.{Bounded, group-bounded, group-told}
-use Rattle.text.specs.Lines.{countsLine}
 use Rattle.text.proofs.Groups.{firstLines, lines-more, lines-room, line-seen}
 use Rattle.text.proofs.put_groups.Statement.{statement}
 use Rattle.text.proofs.put_groups.Tie as tie
 
 abbrev Inv-loop : tie.InvT-loop
-Inv-loop out₀ table groups at₀ index₀ out at index = (index ≤ 16) × Put out₀ 0 (firstLines (groupLine table) index) out at
+Inv-loop out₀ from table groups place₀ index₀ out place index =
+    (index ≤ 16) × Put out₀ from (firstLines (groupLine table) index) out place
 
 abbrev μ-loop : tie.MeasureT-loop
-μ-loop out₀ table groups at₀ index₀ out at index = 16 - index
+μ-loop out₀ from table groups place₀ index₀ out place index = 16 - index
 
 -- the table and the group at hand; `noGroup` is what an array's element is beyond its end
 abbrev noGroup : Group
 noGroup = record { heard = 0; faulted = 0; share = IsShare nan }
 
+abbrev start : tie.In-loop Inv-loop μ-loop → tie.Start Inv-loop μ-loop
+start c = c .before .before .before .before .before .before
+
 abbrev tableIn : tie.In-loop Inv-loop μ-loop → List ℕ
-tableIn c = c .before .before .before .before .before .before .args .table .now
+tableIn c = start c .args .table .now
 
 abbrev groupIn : tie.In-loop Inv-loop μ-loop → Group
 groupIn c = getD (c .before .before .before .view .result .groups) (c .before .loop .index) noGroup
 
 -- its counts are the table's
 seen : (c : tie.In-loop Inv-loop μ-loop)
-    → groupValues (groupIn c) ≡ counted (heardOf (tableIn c) (suc (c .before .loop .index))) (faultedOf (tableIn c) (suc (c .before .loop .index)))
+    → let k = suc (c .before .loop .index) in
+    groupValues (groupIn c) ≡ counted (heardOf (tableIn c) k) (faultedOf (tableIn c) k)
 seen c =
     let view = c .before .before .before .view in
-    group-told (tableIn c) (view .result) (view .ensures) (c .before .before .before .before .before .before .pre .0) (c .before .loop .index)
-    (c .loop-test .taken) noGroup
+    let index = c .before .loop .index in
+    group-told (tableIn c) (view .result) (view .ensures) (start c .pre .0) index (c .loop-test .taken) noGroup
 
 small : (c : tie.In-loop Inv-loop μ-loop) → Bounded (groupIn c .heard) (groupIn c .faulted) 16
 small c =
@@ -50,7 +54,8 @@ small c =
     record { among = omega arith; few = omega arith }
 
 line : (c : tie.In-loop Inv-loop μ-loop)
-    → countsLine (c .before .loop .index + 1) (groupIn c .heard) (groupIn c .faulted) ≡ groupLine (tableIn c) (suc (c .before .loop .index))
+    → let index = c .before .loop .index in
+    countsLine (index + 1) (groupIn c .heard) (groupIn c .faulted) ≡ groupLine (tableIn c) (suc index)
 line c = line-seen (tableIn c) (c .before .loop .index) (groupIn c) (seen c)
 
 view-requires : tie.Need-view-requires Inv-loop μ-loop
@@ -58,7 +63,7 @@ view-requires c κs = tt
 
 loop-holds : tie.Need-loop-holds Inv-loop μ-loop
 unfolding flatMap upTo
-loop-holds c = (omega arith, record { bytes = refl; end = refl })
+loop-holds c = (omega arith, put-none _ _)
 
 cast-group : tie.Need-cast-group Inv-loop μ-loop
 cast-group c = omega arith
@@ -83,8 +88,7 @@ put-group-requires c κs =
     let o = c .before .before .before .before in
     let done = o .before .loop .inv .1 in
     let room = lines-room (groupLine (tableIn o)) (o .before .loop .index) (o .loop-test .taken) in
-    omega
-    (arith, done .end, put-length done, ap length (line o), room, groups-length (tableIn o), o .before .before .before .before .before .before .pre .1)
+    omega (arith, done .end, put-length done, ap length (line o), room, start o .pre .1)
 
 add-index : tie.Need-add-index Inv-loop μ-loop
 add-index c = omega arith
@@ -96,7 +100,8 @@ loop-again : tie.Need-loop-again Inv-loop μ-loop
 loop-again c =
     let put = c .before .before in
     let o = put .before .before .before .before .before in
-    (omega arith, rw (lines-more (groupLine (tableIn o)) (o .before .loop .index)) (put-then (o .before .loop .inv .1) (rw (line o) at (put .put-group .ensures))))
+    let whole = put-then (o .before .loop .inv .1) (rw (line o) at (put .put-group .ensures)) in
+    (omega arith, rw (lines-more (groupLine (tableIn o)) (o .before .loop .index)) whole)
 
 same-length : tie.Need-same-length Inv-loop μ-loop
 same-length c = put-length (c .before .loop .inv .1)

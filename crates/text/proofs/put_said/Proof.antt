@@ -20,7 +20,9 @@ same-length : tie.Need-same-length
 same-length c = search needs
 
 returns-2 : tie.Need-returns-2
-returns-2 c = let put = c .before .before in rw (put .before .before .before .said .given .1) (put .put-verdict .ensures)
+returns-2 c =
+    let put = c .before .before in
+    rw (put .before .before .before .said .given .1) (put .put-verdict .ensures)
 
 pub put-said-spec : {M : Type 1} → statement M
 put-said-spec =

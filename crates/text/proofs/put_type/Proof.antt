@@ -19,11 +19,11 @@ returns c =
     let test = o .before .before .before in
     rw (sym (test .before .carries-type .ensures) ∙ test .if1 .taken) (o .put-hex .ensures)
 
-slice-aggregate-put-all : tie.Need-slice-aggregate-put-all
-slice-aggregate-put-all c = search needs
+slice-aggregate-put-part : tie.Need-slice-aggregate-put-part
+slice-aggregate-put-part c = search needs
 
-put-all-requires : tie.Need-put-all-requires
-put-all-requires c κs = search needs
+put-part-requires : tie.Need-put-part-requires
+put-part-requires c κs = search needs
 
 same-length-2 : tie.Need-same-length-2
 same-length-2 c = search needs
@@ -32,7 +32,7 @@ returns-2 : tie.Need-returns-2
 returns-2 c =
     let o = c .before .before in
     let test = o .before .before .before in
-    rw (sym (test .before .carries-type .ensures) ∙ test .if1 .left) (o .put-all .ensures)
+    rw (sym (test .before .carries-type .ensures) ∙ test .if1 .left) (o .put-part .ensures)
 
 pub put-type-spec : {M : Type 1} → statement M
 put-type-spec =
@@ -42,7 +42,7 @@ put-type-spec =
     put-hex-requires
     same-length
     returns
-    slice-aggregate-put-all
-    put-all-requires
+    slice-aggregate-put-part
+    put-part-requires
     same-length-2
     returns-2)

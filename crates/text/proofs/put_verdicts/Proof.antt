@@ -1,90 +1,108 @@
--- The loop's invariant: the first `used` bytes are read, and the lines of their verdicts put. Assumes nothing.
+-- The loop's invariant: the first `used` bytes are heard, their good messages put into the table, and the lines of
+-- their verdicts into the buffer. Assumes nothing.
 use Prim.Native.Nat.{ℕ, _+_, _-_}
 use native.Mathlib.Omega.{arith}
-use mathlib.Core.Path.{_≡_}
-use mathlib.Core.List.{List, _++_, flatMap}
+use mathlib.Core.Path.{_≡_, refl, sym, ap, _∙_}
+use mathlib.Core.List.{List, flatMap}
 use lib.ListN.{length, take}
 use lib.Seq.{take-all}
-use Rattle.standard.specs.declared.Framing.the-variants.{Binary}
 use Rattle.standard.specs.Words.{Put}
-use Rattle.standard.specs.Stream.{handedOf}
-use Rattle.standard.specs.Report.{verdictLine}
-use Rattle.reader.specs.Read.{readOf}
-use Rattle.text.specs.Lines.{saidLines}
+use Rattle.standard.specs.Replies.{replyNumber}
+use Rattle.standard.specs.Table.{tableAfter}
 use Rattle.standard.proofs.Put.{put-none, put-then, put-length}
-use Rattle.text.proofs.Turns.{ReadTo, restOf, Turn, turn, read-none, lines-turn, lines-room}
+use Rattle.reader.specs.declared.Reader.{Reader}
+use Rattle.reader.specs.declared.Mode.{Mode}
+use Rattle.reader.proofs.Arrays.{Whole}
+use Rattle.host.proofs.Demand3.{after-length}
+use Rattle.text.proofs.Turns.{linesOf, HeardTo, heard-none, array-whole, Turn, turn}
 use Rattle.text.proofs.put_verdicts.Statement.{statement}
 use Rattle.text.proofs.put_verdicts.Tie as tie
 
+-- the reader with its parts
+abbrev readerOf : Mode → ℕ → List ℕ → Reader
+readerOf mode held frame = record { mode = mode; held = held; bytes = frame }
+
 abbrev Inv-loop : tie.InvT-loop
-Inv-loop out₀ capture reader₀ used₀ at₀ out reader used at =
-    ReadTo capture used reader × Put out₀ 0 (flatMap verdictLine (handedOf Binary (take used capture))) out at
+Inv-loop out₀ table₀ capture mode₀ held₀ frame₀ used₀ place₀ out table mode held frame used place =
+    HeardTo capture table₀ used (readerOf mode held frame) table × Put out₀ 0 (linesOf (take used capture)) out place
 
 abbrev μ-loop : tie.MeasureT-loop
-μ-loop out₀ capture reader₀ used₀ at₀ out reader used at = length capture - used
+μ-loop out₀ table₀ capture mode₀ held₀ frame₀ used₀ place₀ out table mode held frame used place = length capture - used
 
-abbrev captureIn : tie.After-read Inv-loop μ-loop → List ℕ
-captureIn c = c .before .before .before .before .before .before .before .args .capture .now
+-- the values at the loop's head, where the call was made, and those at the beginning
+abbrev head : tie.After-listen Inv-loop μ-loop → tie.At-loop Inv-loop μ-loop
+head c = c .before .before .before .before .before
 
--- what the call adds, and the lines then
-turned : (c : tie.After-read Inv-loop μ-loop)
-    → let loop = c .before .before .before .loop in
-    Turn (captureIn c) (loop .used) (readOf (loop .reader) (restOf (captureIn c) (loop .used)) .said) (c .read .result .used) (c .read .result .reader)
+abbrev start : tie.At-loop Inv-loop μ-loop → tie.Start Inv-loop μ-loop
+start c = c .before .before .before .before
+
+-- what the call adds
+turned : (c : tie.After-listen Inv-loop μ-loop)
+    → let a = start (head c) .args in
+    let answer = c .listen .result in
+    Turn (a .capture .now) (a .table .now) (head c .loop .used)
+    (answer .said) (replyNumber (answer .reply)) (answer .used)
+    (readerOf (answer .mode) (answer .held) (c .listen .last .1 .1 .0)) (c .listen .last .1 .1 .1 .0)
 turned c =
-    let loop = c .before .before .before .loop in
-    turn (captureIn c) (loop .used) (loop .reader) (loop .inv .0) (c .before .before .loop-test .taken) (c .read .ensures)
-
-lines : (c : tie.After-read Inv-loop μ-loop)
-    → let used = c .before .before .before .loop .used in
-    flatMap verdictLine (handedOf Binary (take (used + c .read .result .used) (captureIn c)))
-    ≡ flatMap verdictLine (handedOf Binary (take used (captureIn c))) ++ saidLines (c .read .result .said)
-lines c = lines-turn (c .read .result .said) (turned c) (c .read .ensures .gives .verdict)
-
-fresh-requires : tie.Need-fresh-requires Inv-loop μ-loop
-fresh-requires c κs = tt
+    let loop = head c .loop in
+    let s = start (head c) in
+    let r = readerOf (loop .mode) (loop .held) (loop .frame) in
+    turn (s .args .capture .now) (s .args .table .now) (loop .used) r (loop .table) (loop .inv .0) (s .pre .0)
+    (c .before .before .before .before .loop-test .taken) (c .listen .ensures)
 
 loop-holds : tie.Need-loop-holds Inv-loop μ-loop
 unfolding flatMap
-loop-holds c = (rw (c .fresh .ensures) (read-none (c .before .before .before .args .capture .now)), put-none _ _)
+loop-holds c = (heard-none _ _, put-none _ _)
 
-sub-read : tie.Need-sub-read Inv-loop μ-loop
-sub-read c = omega arith
+slice-aggregate-listen : tie.Need-slice-aggregate-listen Inv-loop μ-loop
+unfolding Whole
+slice-aggregate-listen c =
+    let o = c .before .before in
+    sym (array-whole _ _ (o .loop .used) (o .loop .inv .0))
 
-part-read-start : tie.Need-part-read-start Inv-loop μ-loop
-part-read-start c = omega arith
+sub-listen : tie.Need-sub-listen Inv-loop μ-loop
+sub-listen c = omega arith
 
-part-read-end : tie.Need-part-read-end Inv-loop μ-loop
-part-read-end c = omega arith
+part-listen-start : tie.Need-part-listen-start Inv-loop μ-loop
+part-listen-start c = omega arith
 
-read-requires : tie.Need-read-requires Inv-loop μ-loop
-read-requires c κs = tt
+part-listen-end : tie.Need-part-listen-end Inv-loop μ-loop
+part-listen-end c = omega arith
+
+listen-requires : tie.Need-listen-requires Inv-loop μ-loop
+listen-requires c κs = tt
 
 add-used : tie.Need-add-used Inv-loop μ-loop
-add-used c = omega (arith, turned (c .before .before) .on .within)
+add-used c = omega (arith, turned (c .before .before .before .before) .on .within)
 
 put-said-requires : tie.Need-put-said-requires Inv-loop μ-loop
 put-said-requires c κs =
-    let o = c .before .before .before in
-    let done = o .before .before .before .loop .inv .1 in
-    let start = o .before .before .before .before .before .before .before in
-    omega (arith, done .end, put-length done, lines-room (o .read .result .said) (turned o) (o .read .ensures .gives .verdict), start .pre)
+    let o = c .before .before .before .before .before in
+    let done = head o .loop .inv .1 in
+    omega (arith, done .end, put-length done, turned o .room, start (head o) .pre .1)
 
 loop-less : tie.Need-loop-less Inv-loop μ-loop
-loop-less c = let t = turned (c .before .before .before .before .before .before) in omega (arith, t .on .within, t .moves)
+loop-less c =
+    let t = turned (c .before .before .before .before .before .before .before .before) in
+    omega (arith, t .on .within, t .moves)
 
 loop-again : tie.Need-loop-again Inv-loop μ-loop
 loop-again c =
     let put = c .before .before in
-    let o = put .before .before .before .before in
-    (turned o .on, rw (lines o) (put-then (o .before .before .before .loop .inv .1) (put .put-said .ensures)))
+    let o = put .before .before .before .before .before .before in
+    (turned o .on, rw (turned o .lines) (put-then (head o .loop .inv .1) (put .put-said .ensures)))
 
 same-length : tie.Need-same-length Inv-loop μ-loop
 same-length c = put-length (c .before .loop .inv .1)
 
+same-length-2 : tie.Need-same-length-2 Inv-loop μ-loop
+same-length-2 c = ap length (c .before .loop .inv .0 .table) ∙ after-length _ _
+
 returns : tie.Need-returns Inv-loop μ-loop
 returns c =
-    let capture = c .before .before .before .before .before .args .capture .now in
-    rw (take-all (c .before .loop .used) capture (c .loop-test .left)) at (c .before .loop .inv .1)
+    let s = start (c .before) in
+    let all = take-all (c .before .loop .used) (s .args .capture .now) (c .loop-test .left) in
+    (rw all at (c .before .loop .inv .1), rw all at (c .before .loop .inv .0 .table))
 
 pub put-verdicts-spec : {M : Type 1} → statement M
 put-verdicts-spec =
@@ -92,15 +110,16 @@ put-verdicts-spec =
     (tie.spec
     Inv-loop
     μ-loop
-    fresh-requires
     loop-holds
-    sub-read
-    part-read-start
-    part-read-end
-    read-requires
+    slice-aggregate-listen
+    sub-listen
+    part-listen-start
+    part-listen-end
+    listen-requires
     add-used
     put-said-requires
     loop-less
     loop-again
     same-length
+    same-length-2
     returns)

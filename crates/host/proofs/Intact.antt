@@ -1,0 +1,69 @@
+-- AN INTACT FRAME IS HEARD after all kinds of noise, and whatever follows it: its verdict, its reply and its effect on
+-- the table are its own, and what stands before it is heard as if the frame's start byte were its last.
+-- Assumes nothing.
+use Prim.Native.Nat.{ℕ}
+use mathlib.Core.Path.{_≡_, refl, ap, _∙_}
+use mathlib.Core.Bool.{false}
+use mathlib.Core.List.{List, [], _∷_, _++_, flatMap}
+use Rattle.standard.specs.declared.Framing.{Framing}
+use Rattle.standard.specs.Words.{byte}
+use Rattle.standard.specs.Messages.{among, checkOf}
+use Rattle.standard.specs.Framing.{startOf, frameOf}
+use Rattle.standard.specs.Judge.{Handed, decided, handing, judge}
+use Rattle.standard.specs.Stream.{handedOf}
+use Rattle.standard.specs.Replies.{replyOf}
+use Rattle.standard.specs.Table.{fresh, appliedTo, tableAfter}
+use Rattle.standard.proofs.Words.{map-append, flatMap-append}
+use Rattle.standard.proofs.Framings.{Bytes}
+use Rattle.standard.proofs.Stream.{handed-amid}
+use Rattle.standard.proofs.Decided.{handed-amid-part}
+use Rattle.reader.specs.Read.{freshReader}
+use Rattle.reader.specs.Calls.{joined}
+use Rattle.host.specs.Hearings.{Heard, sends, replyFor, heardAs, streamHeard, thenHeard, alsoHeard, hearAll, Hearings}
+use Rattle.host.specs.Hearings.{heardBefore, heardAmid}
+use Rattle.host.proofs.Demand3.{after-append, demand3, demand3-any-caller}
+
+-- some verdicts, and others after them
+heard-append : (t : List ℕ) (a b : List Handed)
+    → heardAs t (a ++ b) ≡ thenHeard (heardAs t a) (heardAs (tableAfter t a) b)
+heard-append t a b =
+    rw (map-append replyFor a b, flatMap-append (λ h. sends (replyFor h)) a b, after-append t a b)
+
+-- one verdict, before others
+heard-one : (t : List ℕ) (h : Handed) (hs : List Handed)
+    → heardAs t (h ∷ hs) ≡ alsoHeard (h ∷ []) (replyFor h) (heardAs (tableAfter t (h ∷ [])) hs)
+unfolding tableAfter flatMap
+heard-one t h hs = refl
+
+amid : (f : Framing) (p q : List ℕ) (h : Handed)
+    → heardAs fresh (handedOf f (p ++ (startOf f ∷ [])) ++ (h ∷ handedOf f q)) ≡ heardAmid f p h q
+amid f p q h =
+    let before = handedOf f (p ++ (startOf f ∷ [])) in
+    heard-append fresh before (h ∷ handedOf f q)
+    ∙ ap (thenHeard (heardBefore f p)) (heard-one (tableAfter fresh before) h (handedOf f q))
+
+-- EVERY PART THAT IS DECIDED, whichever its verdict; it may go on after the byte that decides
+module _ (f : Framing) (p part q : List ℕ) (h : Handed) (reads : List (List ℕ)) (none : among (startOf f) part ≡ false)
+    (e : judge f (startOf f ∷ part) ≡ decided h) (j : joined reads ≡ p ++ (startOf f ∷ part ++ q)) where
+  stream : streamHeard f (joined reads) ≡ heardAmid f p h q
+  stream = ap (streamHeard f) j ∙ ap (heardAs fresh) (handed-amid-part f p part q h none e) ∙ amid f p q h
+
+  pub intact : hearAll (freshReader f) fresh reads ≡ heardAmid f p h q
+  intact = demand3 f reads ∙ stream
+
+  pub intact-any-caller : {heard : Heard} → Hearings (freshReader f) fresh reads heard → heard ≡ heardAmid f p h q
+  intact-any-caller c = demand3-any-caller f c ∙ stream
+
+-- A MESSAGE'S FRAME, as it is written: the message goes into the table, and its type byte decides the reply
+pub intact-frame : (f : Framing) (p m q : List ℕ) (reads : List (List ℕ)) → checkOf m ≡ 0 → Bytes m
+    → joined reads ≡ p ++ (frameOf f m ++ q)
+    → let before = heardBefore f p in
+    hearAll (freshReader f) fresh reads
+    ≡ thenHeard before
+    (alsoHeard (handing 0 m ∷ []) (replyOf 0 (byte 1 m)) (heardAs (appliedTo (before .table) m) (handedOf f q)))
+unfolding tableAfter
+intact-frame f p m q reads h b j =
+    demand3 f reads
+    ∙ ap (streamHeard f) j
+    ∙ ap (heardAs fresh) (handed-amid f p m q h b)
+    ∙ amid f p q (handing 0 m)
