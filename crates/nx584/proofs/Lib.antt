@@ -1,2 +1,4 @@
 pub mod InC
+pub mod Back
+pub mod Cuts
 pub mod Unique

@@ -375,12 +375,7 @@ pub extern "C" fn nx584_step(reader: CReader, byte: u8) -> CReading
 
 // The frame of a message, into the part of `out` that starts at `place`.
 #[no_mangle]
-pub extern "C" fn nx584_write(
-    message: &[u8],
-    framing: u8,
-    out: &mut [u8],
-    place: usize,
-) -> CWritten
+pub extern "C" fn nx584_write(message: &[u8], framing: u8, out: &mut [u8], place: usize) -> CWritten
     ensures { λ r. ⌜ CWrote (now (message .entry)) framing (now (out .entry)) place r (now (out .exit)) ⌝ }
 {
     let written = writer::write(message, framing_for(framing), out, place);

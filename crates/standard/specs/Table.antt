@@ -118,7 +118,6 @@ unfoldable pub doneAll : List Write → List ℕ → List ℕ
 doneAll [] t = t
 doneAll (w ∷ ws) t = doneAll ws (done w t)
 
-
 -- "Order of refusal: 11, 4, 6, 7, 8"
 unfoldable pub applyRefusal : List ℕ → List ℕ → ℕ
 applyRefusal t m = firstOf (tableTest t ∷ messageTests m)

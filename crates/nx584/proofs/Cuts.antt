@@ -1,0 +1,77 @@
+-- DEMAND 3 at the boundary, over what the calls of C answer: a reader that C hands back is the one that it was given, and an answer's numbers tell
+-- what was handed out; so a caller of `nx584_read` is one of `read`, and a caller of `nx584_hear` one of `hear`. Assumes nothing.
+use Prim.Native.Nat.{ℕ, zero, suc, _+_, _≤_}
+use native.Mathlib.Omega.{arith}
+use mathlib.Core.Path.{_≡_, refl, sym, ap, _∙_}
+use mathlib.Core.Bool.{Bool, true, false, cond}
+use mathlib.Core.List.{List, [], _∷_, _++_, map}
+use lib.Dec.{eqb}
+use lib.ListN.{length, take, drop}
+use lib.Seq.{take-append-seam}
+use borrow.Author.Tests.{ne-eqb}
+use Rattle.standard.specs.declared.Framing.{Framing}
+use Rattle.standard.specs.Judge.{Handed, verdictFor, verdictsIn}
+use Rattle.standard.specs.Stream.{handedOf}
+use Rattle.standard.specs.Table.{tableBytes, fresh, tableAfter}
+use Rattle.reader.specs.declared.Reader.{Reader}
+use Rattle.reader.specs.Read.{freshReader, soundReader, readOf}
+use Rattle.reader.specs.Calls.{joined, handedBefore, callsOf, drive, Calls}
+use Rattle.reader.specs.Calls.{finished as no-call, call as one-call}
+use Rattle.reader.proofs.Arrays.{sound-read}
+use Rattle.reader.proofs.Handing.{saidFor, one-verdict, sound-verdict}
+use Rattle.reader.proofs.Demand3.{reads-are-parts, any-caller}
+use Rattle.nx584.specs.declared.CReader.{CReader}
+use Rattle.nx584.specs.declared.CReading.{CReading}
+use Rattle.nx584.specs.Boundary.{framingFor, cReader, numberSaid, typeSaid, messageSaid, padded, cTook, cRead, cReading}
+use Rattle.nx584.specs.Callers.{handedBy, readingHands, cFresh, cCallsOf, cDrive, CCalls, finished, call}
+use Rattle.nx584.proofs.InC.{read-took}
+use Rattle.nx584.proofs.Back.{reader-back, sound-back}
+
+-- ---- one answer
+
+-- what was said, from its numbers: 255 is no verdict, and the message is given back without its zeros
+told-back : (hs : List Handed) → verdictsIn (saidFor hs) ≡ map verdictFor hs → ((h : Handed) (more : List Handed) → hs ≡ h ∷ more → h .verdict ≤ 8)
+    → handedBy (numberSaid hs) (typeSaid hs) (length (messageSaid hs)) (padded (messageSaid hs)) ≡ hs
+told-back [] one few = refl
+told-back (h ∷ []) one few =
+    rw (ne-eqb (h .verdict) 255 (λ e. let x = few h [] refl in omega arith), take-append-seam (h .message) _)
+told-back (h ∷ g ∷ hs) one few = absurd (let z = ap length one in omega arith)
+
+-- a read of a sound reader
+pub read-back : (r : Reader) (bs : List ℕ) → soundReader r ≡ true → cRead (cReader r) bs ≡ cTook (readOf r bs)
+read-back r bs h = read-took (cReader r) bs (sound-back r ∙ h) ∙ ap (λ x. cTook (readOf x bs)) (reader-back r)
+
+pub said-back : (r : Reader) (bs : List ℕ) → soundReader r ≡ true → readingHands (cReading (cRead (cReader r) bs)) ≡ readOf r bs .said
+said-back r bs h =
+    rw (read-back r bs h) (told-back (readOf r bs .said) (one-verdict r bs) (λ g more e. sound-verdict r bs g more h e))
+
+-- ---- `nx584_read`
+
+calls-same : (n : ℕ) (r : Reader) (reads : List (List ℕ)) → soundReader r ≡ true → cCallsOf n (cReader r) reads ≡ callsOf n r reads
+unfolding cCallsOf callsOf
+calls-same zero r reads h = refl
+calls-same (suc n) r [] h = refl
+calls-same (suc n) r (bs ∷ reads) h =
+    let left = handedBefore (drop (readOf r bs .used) bs) reads in
+    rw (said-back r bs h, read-back r bs h)
+    (ap (λ hs. readOf r bs .said ++ hs) (calls-same n (readOf r bs .reader) left (sound-read r bs h)))
+
+-- the caller that hands in what is left before the next read
+pub c-cuts : (framing : ℕ) (reads : List (List ℕ)) → cDrive (cFresh framing) reads ≡ handedOf (framingFor framing) (joined reads)
+unfolding cDrive drive
+c-cuts framing reads =
+    calls-same (length (joined reads) + length reads) (freshReader (framingFor framing)) reads refl ∙ reads-are-parts (framingFor framing) reads
+
+calls-are : {c : CReader} {reads : List (List ℕ)} {hs : List Handed} → CCalls c reads hs
+    → (r : Reader) → c ≡ cReader r → soundReader r ≡ true → Calls r reads hs
+calls-are finished r e h = no-call
+calls-are (call {c} {bs} {reads} {again} {hs} {a} answer j calls) r e h =
+    let x : a ≡ cReading (cTook (readOf r bs)) = answer ∙ ap (λ y. cReading (cRead y bs)) e ∙ ap cReading (read-back r bs h) in
+    let said : readingHands a ≡ readOf r bs .said = ap readingHands (answer ∙ ap (λ y. cReading (cRead y bs)) e) ∙ said-back r bs h in
+    let used : a .used ≡ readOf r bs .used = ap (λ (y : CReading). y .used) x in
+    rw said (one-call (rw used at j) (calls-are calls (readOf r bs .reader) (ap (λ (y : CReading). y .reader) x) (sound-read r bs h)))
+
+-- any caller
+pub c-cuts-any-caller : (framing : ℕ) {reads : List (List ℕ)} {hs : List Handed} → CCalls (cFresh framing) reads hs
+    → hs ≡ handedOf (framingFor framing) (joined reads)
+c-cuts-any-caller framing c = any-caller (framingFor framing) (calls-are c (freshReader (framingFor framing)) refl refl)
