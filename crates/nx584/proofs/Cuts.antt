@@ -20,11 +20,18 @@ use Rattle.reader.specs.Calls.{finished as no-call, call as one-call}
 use Rattle.reader.proofs.Arrays.{sound-read}
 use Rattle.reader.proofs.Handing.{saidFor, one-verdict, sound-verdict}
 use Rattle.reader.proofs.Demand3.{reads-are-parts, any-caller}
+use Rattle.host.specs.Hear.{replyTo}
+use Rattle.host.specs.Hearings.{Heard, repliesTo, streamHeard}
+use Rattle.host.proofs.Demand3.{after-append, after-length}
 use Rattle.nx584.specs.declared.CReader.{CReader}
 use Rattle.nx584.specs.declared.CReading.{CReading}
-use Rattle.nx584.specs.Boundary.{framingFor, cReader, numberSaid, typeSaid, messageSaid, padded, cTook, cRead, cReading}
-use Rattle.nx584.specs.Callers.{handedBy, readingHands, cFresh, cCallsOf, cDrive, CCalls, finished, call}
-use Rattle.nx584.proofs.InC.{read-took}
+use Rattle.nx584.specs.declared.CHearing.{CHearing}
+use Rattle.nx584.specs.Boundary.{framingFor, cReader, numberSaid, typeSaid, messageSaid, padded}
+use Rattle.nx584.specs.Boundary.{cTook, cRead, cReading, cHeard, cHearing, cLeft, CHears}
+use Rattle.nx584.specs.Callers.{handedBy, readingHands, hearingHands, hearingReplies, cFresh, alsoAnswered}
+use Rattle.nx584.specs.Callers.{cCallsOf, cDrive, CCalls, finished, call, cHearingsOf, cHearAll, CHearings}
+use Rattle.nx584.specs.Callers.{finished as no-hearing, call as one-hearing}
+use Rattle.nx584.proofs.InC.{read-took, heard-c}
 use Rattle.nx584.proofs.Back.{reader-back, sound-back}
 
 -- ---- one answer
@@ -75,3 +82,26 @@ calls-are (call {c} {bs} {reads} {again} {hs} {a} answer j calls) r e h =
 pub c-cuts-any-caller : (framing : ℕ) {reads : List (List ℕ)} {hs : List Handed} → CCalls (cFresh framing) reads hs
     → hs ≡ handedOf (framingFor framing) (joined reads)
 c-cuts-any-caller framing c = any-caller (framingFor framing) (calls-are c (freshReader (framingFor framing)) refl refl)
+
+-- ---- `nx584_hear`
+
+-- what a sound reader and a whole table give, by the numbers of the answer
+record Answers (r : Reader) (t bs : List ℕ) (a : CHearing) (after : List ℕ) : Type 0 where
+  said : hearingHands a ≡ readOf r bs .said
+  reply : a .reply ≡ replyTo (readOf r bs .said)
+  next : a .reader ≡ cReader (readOf r bs .reader)
+  used : a .used ≡ readOf r bs .used
+  left : after ≡ tableAfter t (readOf r bs .said)
+
+hear-back : (r : Reader) (t bs : List ℕ) (a : CHearing) (after : List ℕ) → soundReader r ≡ true → length t ≡ tableBytes
+    → CHears (cReader r) t bs a after → Answers r t bs a after
+hear-back r t bs a after h w p =
+    let e = heard-c (cReader r) t bs w ∙ read-back r bs h in
+    let x = p .says ∙ ap cHearing e in
+    record {
+      said = ap hearingHands (p .says ∙ ap cHearing (heard-c (cReader r) t bs w)) ∙ said-back r bs h;
+      reply = ap (λ (y : CHearing). y .reply) x;
+      next = ap (λ (y : CHearing). y .reader) x;
+      used = ap (λ (y : CHearing). y .used) x;
+      left = p .leaves ∙ ap (λ y. tableAfter t (y .said)) e;
+    }
