@@ -1,59 +1,88 @@
--- The answer of `hear`, from that of `read`: refused with 11, or with the table after what was handed out and the reply to it. Assumes nothing.
-use Prim.Native.Nat.{ℕ, _-_, _≤_}
+-- The answer of `listen`, from that of `scan`: refused with 11 or 12, or with the table after what was handed out and the reply to it. Assumes nothing.
+use Prim.Native.Nat.{ℕ, _+_, _-_, _≤_}
 use native.Mathlib.Omega.{arith}
 use mathlib.Core.Path.{_≡_, refl, sym, ap, _∙_}
 use mathlib.Core.List.{List, [], _∷_, map, head-eq-of-cons-eq}
-use lib.ListN.{length, take, drop, length-take, length-drop}
-use borrow.Author.Tests.{eq-eqb, ne-eqb}
+use lib.ListN.{length, take, drop, length-take, length-drop, length-map}
+use borrow.Author.Tests.{eq-eqb, ne-eqb, le-leb, lt-leb}
 use Rattle.standard.specs.declared.Said.{Said}
-use Rattle.standard.specs.declared.Said.the-variants.{Gave}
+use Rattle.standard.specs.declared.Said.the-variants.{Silent, Gave}
 use Rattle.standard.specs.declared.Verdict.{Verdict}
 use Rattle.standard.specs.declared.Reply.{Reply}
 use Rattle.standard.specs.declared.Reply.the-variants.{Nothing}
-use Rattle.standard.specs.Judge.{Handed, verdictFor, handedIn}
+use Rattle.standard.specs.Messages.{longest}
+use Rattle.standard.specs.Judge.{Handed, handing, verdictFor, verdictsIn, handedIn}
 use Rattle.standard.specs.Replies.{replyNumber, replyOf}
 use Rattle.standard.specs.Table.{tableBytes, tableAfter}
+use Rattle.standard.proofs.Replies.{reply-none}
 use Rattle.reader.specs.declared.Reader.{Reader}
-use Rattle.reader.specs.Read.{readOf, Reads}
+use Rattle.reader.specs.Read.{Given, notSound, readOf, Gives, Reads}
+use Rattle.reader.proofs.Handing.{saidFor, one-verdict}
 use Rattle.host.specs.Hear.{replyTo, noTable, heardBy, Hears}
 
-no-table : (r : Reader) (t bs : List ℕ) → (length t ≡ tableBytes → ⊥) → heardBy r t bs ≡ noTable r
+-- ---- what a call hears
+
+pub no-table : (r : Reader) (t bs : List ℕ) → (length t ≡ tableBytes → ⊥) → heardBy r t bs ≡ noTable r
 unfolding heardBy
 no-table r t bs h = rw (ne-eqb (length t) tableBytes h)
 
--- with a whole table a call hears what a read gives
-pub heard-read : (r : Reader) (t bs : List ℕ) → length t ≡ tableBytes → heardBy r t bs ≡ readOf r bs
+pub no-array : (r : Reader) (t bs : List ℕ) → length t ≡ tableBytes → (length (r .bytes) ≡ longest + 3 → ⊥) → heardBy r t bs ≡ notSound r
 unfolding heardBy
-heard-read r t bs h = rw (eq-eqb (length t) tableBytes h)
+no-array r t bs h w = rw (eq-eqb (length t) tableBytes h, ne-eqb (length (r .bytes)) (longest + 3) w)
 
-pub refused : (r : Reader) (t bs : List ℕ) → (length t ≡ tableBytes → ⊥)
-    → Hears r t bs r 0 (Gave (record { number = 11; «type_byte» = 0; length = 0 })) Nothing t
-unfolding replyOf tableAfter
-refused r t bs h =
-    let e = no-table r t bs h in
+-- with a whole table, and a reader's array, a call hears what a read gives
+pub heard-read : (r : Reader) (t bs : List ℕ) → length t ≡ tableBytes → length (r .bytes) ≡ longest + 3 → heardBy r t bs ≡ readOf r bs
+unfolding heardBy
+heard-read r t bs h w = rw (eq-eqb (length t) tableBytes h, eq-eqb (length (r .bytes)) (longest + 3) w)
+
+-- ---- what it answers
+
+-- a refusal: nothing is used, reader and table stay, and there is no reply
+pub refused : (number : ℕ) (r : Reader) (t bs : List ℕ) → 9 ≤ number
+    → heardBy r t bs ≡ record { reader = r; used = 0; said = handing number [] ∷ [] }
+    → Hears r t bs r 0 (Gave (record { number = number; «type_byte» = 0; length = 0 })) Nothing t
+unfolding tableAfter
+refused number r t bs h e =
+    let some = ne-eqb number 0 (λ z. omega arith) in
+    let above = le-leb 6 number (omega arith) in
+    let beyond = lt-leb number 8 (omega arith) in
     record {
-      gives = rw e (record { next = refl; verdict = refl; handed = refl });
+      gives = rw (e, some, above, beyond) (record { next = refl; verdict = refl; handed = refl });
       uses = rw e;
-      replies = rw e;
-      leaves = rw e;
+      replies = rw e (sym (reply-none number _ h));
+      leaves = rw (e, some);
     }
 
-pub hears : (r : Reader) (t bs : List ℕ) (reader : Reader) (used : ℕ) (said : Said) (reply : Reply) (after : List ℕ) → length t ≡ tableBytes
-    → Reads r bs reader used said → replyNumber reply ≡ replyTo (handedIn said (reader .bytes)) → after ≡ tableAfter t (handedIn said (reader .bytes))
-    → Hears r t bs reader used said reply after
-hears r t bs reader used said reply after h read p q =
-    let e = heard-read r t bs h in
-    let said-as = read .gives .handed in
+-- a read that said `heard`, and the reply and the table that go with it
+pub hears : (r : Reader) (t bs : List ℕ) {reader : Reader} {used : ℕ} {heard said : Said} {reply : Reply} {after : List ℕ} → heard ≡ said
+    → heardBy r t bs ≡ readOf r bs → Reads r bs reader used heard → replyNumber reply ≡ replyTo (handedIn said (reader .bytes))
+    → after ≡ tableAfter t (handedIn said (reader .bytes)) → Hears r t bs reader used said reply after
+hears r t bs {reader} {used} {heard} {said} s e read p q =
+    let as-said : Reads r bs reader used said = rw s at read in
+    let handed = as-said .gives .handed in
     record {
-      gives = rw e (read .gives);
-      uses = rw e (read .uses);
-      replies = rw e (p ∙ ap replyTo said-as);
-      leaves = rw e (q ∙ ap (tableAfter t) said-as);
+      gives = rw e (as-said .gives);
+      uses = rw e (as-said .uses);
+      replies = rw e (p ∙ ap replyTo handed);
+      leaves = rw e (q ∙ ap (tableAfter t) handed);
     }
+
+-- ---- what it hands out
 
 -- a message stands in the reader's bytes
-pub message-fits : (v : Verdict) (bytes : List ℕ) (hs : List Handed) → v ∷ [] ≡ map verdictFor hs → handedIn (Gave v) bytes ≡ hs → v .length ≤ length bytes - 1
-message-fits v bytes hs e h =
-    let same : v ∷ [] ≡ map verdictFor (handedIn (Gave v) bytes) = e ∙ ap (map verdictFor) (sym h) in
+pub message-fits : (v : Verdict) {said : Said} {reader : Reader} {a : Given} → said ≡ Gave v → Gives reader said a
+    → v .length ≤ length (reader .bytes) - 1
+message-fits v {said} {reader} {a} s g =
+    let given : Gives reader (Gave v) a = rw s at g in
+    let bytes = reader .bytes in
+    let same : v ∷ [] ≡ map verdictFor (handedIn (Gave v) bytes) = given .verdict ∙ ap (map verdictFor) (sym (given .handed)) in
     let size : v .length ≡ length (take (v .length) (drop 1 bytes)) = ap (λ (w : Verdict). w .length) (head-eq-of-cons-eq same) in
     omega (arith, length-take (v .length) (drop 1 bytes), length-drop 1 bytes)
+
+few : (said : Said) (hs : List Handed) → verdictsIn said ≡ map verdictFor hs → length hs ≤ 1
+few Silent hs e = omega (arith, ap length e, length-map hs verdictFor)
+few (Gave v) hs e = omega (arith, ap length e, length-map hs verdictFor)
+
+-- "at most one verdict"
+pub one-said : (r : Reader) (bs : List ℕ) → length (readOf r bs .said) ≤ 1
+one-said r bs = few (saidFor (readOf r bs .said)) (readOf r bs .said) (one-verdict r bs)

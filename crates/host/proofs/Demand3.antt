@@ -1,26 +1,27 @@
 -- DEMAND 3: from a fresh reader and a fresh table, however the stream is cut into reads, the verdicts, the messages and type bytes handed out,
 -- the replies and the final table are those of the uncut stream, split before every start byte and each part judged by itself. The reader's
--- theorem gives what is handed out; replies and table are functions of that list. Assumes nothing.
-use Prim.Native.Nat.{ℕ, zero, suc, _+_}
+-- theorem gives what is handed out; a call's reply and table are functions of what it said, which is one verdict at most. Assumes nothing.
+use Prim.Native.Nat.{ℕ, zero, suc, _+_, _≤_}
+use native.Mathlib.Omega.{arith}
 use mathlib.Core.Path.{_≡_, refl, ap, _∙_}
 use mathlib.Core.Bool.{Bool, true, false, cond}
-use mathlib.Core.List.{List, [], _∷_, _++_}
+use mathlib.Core.List.{List, [], _∷_, _++_, flatMap}
 use lib.Dec.{eqb}
 use lib.ListN.{length, drop}
 use Rattle.standard.specs.declared.Framing.{Framing}
+use Rattle.standard.specs.Messages.{longest}
 use Rattle.standard.specs.Judge.{Handed}
-use Rattle.standard.specs.Replies.{replyOf}
 use Rattle.standard.specs.Table.{tableBytes, fresh, appliedTo, tableAfter}
-use Rattle.standard.proofs.Words.{map-append}
 use Rattle.standard.proofs.Applied.{applied-length}
 use Rattle.reader.specs.declared.Reader.{Reader}
 use Rattle.reader.specs.Read.{freshReader, Given, readOf}
 use Rattle.reader.specs.Calls.{joined, handedBefore, callsOf, drive, Calls}
 use Rattle.reader.specs.Calls.{finished as no-call, call as one-call}
+use Rattle.reader.proofs.Arrays.{Whole, whole-read}
 use Rattle.reader.proofs.Demand3.{reads-are-parts, any-caller}
-use Rattle.host.specs.Hear.{heardBy}
-use Rattle.host.proofs.Answers.{heard-read}
-use Rattle.host.specs.Hearings.{Heard, repliesTo, streamHeard, alsoHeard, hearingsOf, hearAll, Hearings, finished, call}
+use Rattle.host.specs.Hear.{heardBy, replyTo}
+use Rattle.host.proofs.Answers.{heard-read, one-said}
+use Rattle.host.specs.Hearings.{Heard, heardAs, streamHeard, alsoHeard, hearingsOf, hearAll, Hearings, finished, call}
 
 -- ---- the table after a list
 
@@ -43,35 +44,48 @@ fresh-whole : length fresh ≡ tableBytes
 unfolding fresh
 fresh-whole = refl
 
--- ---- a list that was handed out, with its replies and its table
+-- ---- one call
 
-abbrev heardAs : List ℕ → List Handed → Heard
-heardAs t hs = record { handed = hs; replies = repliesTo hs; table = tableAfter t hs }
+-- a table and a reader's array as code has them, which stay so
+pub record Fit (r : Reader) (t : List ℕ) : Type 0 where
+  pub table : length t ≡ tableBytes
+  pub array : length (r .bytes) ≡ longest + 3
 
-also-as : (t : List ℕ) (said hs : List Handed) → alsoHeard said (heardAs (tableAfter t said) hs) ≡ heardAs t (said ++ hs)
-also-as t said hs = rw (map-append (λ h. replyOf (h .verdict) (h .typeByte)) said hs, after-append t said hs)
+pub fresh-fit : (f : Framing) → Fit (freshReader f) fresh
+fresh-fit f = record { table = fresh-whole; array = refl }
 
-whole-after : (t : List ℕ) (hs : List Handed) → length t ≡ tableBytes → length (tableAfter t hs) ≡ tableBytes
-whole-after t hs h = after-length t hs ∙ h
+pub fit-read : (r : Reader) (t bs : List ℕ) → Fit r t → Fit (readOf r bs .reader) (tableAfter t (readOf r bs .said))
+unfolding Whole
+fit-read r t bs w = record { table = after-length t (readOf r bs .said) ∙ w .table; array = whole-read r bs (w .array) }
 
-hearings-calls : (n : ℕ) (r : Reader) (t : List ℕ) (reads : List (List ℕ)) → length t ≡ tableBytes → hearingsOf n r t reads ≡ heardAs t (callsOf n r reads)
-unfolding hearingsOf callsOf tableAfter
-hearings-calls zero r t reads h = refl
-hearings-calls (suc n) r t [] h = refl
-hearings-calls (suc n) r t (bs ∷ reads) h =
+-- a silent call sends nothing, and any other the reply to its verdict
+pub also-as : (t : List ℕ) (said hs : List Handed) → length said ≤ 1
+    → alsoHeard said (replyTo said) (heardAs (tableAfter t said) hs) ≡ heardAs t (said ++ hs)
+unfolding tableAfter flatMap
+also-as t [] hs few = refl
+also-as t (h ∷ []) hs few = refl
+also-as t (h ∷ g ∷ said) hs few = absurd (omega arith)
+
+-- ---- THE THEOREM
+
+hearings-calls : (n : ℕ) (r : Reader) (t : List ℕ) (reads : List (List ℕ)) → Fit r t → hearingsOf n r t reads ≡ heardAs t (callsOf n r reads)
+unfolding hearingsOf callsOf tableAfter flatMap
+hearings-calls zero r t reads w = refl
+hearings-calls (suc n) r t [] w = refl
+hearings-calls (suc n) r t (bs ∷ reads) w =
     let said = readOf r bs .said in
     let next = readOf r bs .reader in
     let left = handedBefore (drop (readOf r bs .used) bs) reads in
-    rw (heard-read r t bs h)
-    (ap (alsoHeard said) (hearings-calls n next (tableAfter t said) left (whole-after t said h)) ∙ also-as t said (callsOf n next left))
-
--- ---- THE THEOREM
+    rw (heard-read r t bs (w .table) (w .array))
+    (ap (alsoHeard said (replyTo said)) (hearings-calls n next (tableAfter t said) left (fit-read r t bs w))
+    ∙ also-as t said (callsOf n next left) (one-said r bs))
 
 -- the caller that hands in what is left before the next read
 pub demand3 : (f : Framing) (reads : List (List ℕ)) → hearAll (freshReader f) fresh reads ≡ streamHeard f (joined reads)
 unfolding hearAll drive
 demand3 f reads =
-    hearings-calls (length (joined reads) + length reads) (freshReader f) fresh reads fresh-whole ∙ ap (heardAs fresh) (reads-are-parts f reads)
+    hearings-calls (length (joined reads) + length reads) (freshReader f) fresh reads (fresh-fit f)
+    ∙ ap (heardAs fresh) (reads-are-parts f reads)
 
 -- what any caller has heard, and that its reads are those of a caller of `read`
 record Calling (r : Reader) (t : List ℕ) (reads : List (List ℕ)) (heard : Heard) : Type 0 where
@@ -80,20 +94,24 @@ record Calling (r : Reader) (t : List ℕ) (reads : List (List ℕ)) (heard : He
 
 calling-again : (r : Reader) (t bs : List ℕ) (reads again : List (List ℕ)) (later : Heard) (a : Given) → a ≡ readOf r bs
     → joined again ≡ drop (a .used) bs ++ joined reads → Calling (a .reader) (tableAfter t (a .said)) again later
-    → Calling r t (bs ∷ reads) (alsoHeard (a .said) later)
+    → Calling r t (bs ∷ reads) (alsoHeard (a .said) (replyTo (a .said)) later)
 calling-again r t bs reads again later a e j c = record {
   calls = rw e (one-call (rw e at j) (rw e at (c .calls)));
-  heard-as = ap (alsoHeard (a .said)) (c .heard-as) ∙ also-as t (a .said) (later .handed);
+  heard-as =
+      ap (alsoHeard (a .said) (replyTo (a .said))) (c .heard-as)
+      ∙ also-as t (a .said) (later .handed) (rw e (one-said r bs));
 }
 
-calling : {r : Reader} {t : List ℕ} {reads : List (List ℕ)} {heard : Heard} → Hearings r t reads heard → length t ≡ tableBytes → Calling r t reads heard
-unfolding tableAfter
-calling finished h = record { calls = no-call; heard-as = refl }
-calling (call {r} {t} {bs} {reads} {again} {later} j c) h =
-    calling-again r t bs reads again later (heardBy r t bs) (heard-read r t bs h) j (calling c (whole-after t (heardBy r t bs .said) h))
+calling : {r : Reader} {t : List ℕ} {reads : List (List ℕ)} {heard : Heard} → Hearings r t reads heard → Fit r t → Calling r t reads heard
+unfolding tableAfter flatMap
+calling finished w = record { calls = no-call; heard-as = refl }
+calling (call {r} {t} {bs} {reads} {again} {later} j c) w =
+    let e = heard-read r t bs (w .table) (w .array) in
+    calling-again r t bs reads again later (heardBy r t bs) e j (calling c (rw e (fit-read r t bs w)))
 
 -- the same for any caller, which cuts again as it likes what is left and what is still to come
-pub demand3-any-caller : (f : Framing) {reads : List (List ℕ)} {heard : Heard} → Hearings (freshReader f) fresh reads heard → heard ≡ streamHeard f (joined reads)
+pub demand3-any-caller : (f : Framing) {reads : List (List ℕ)} {heard : Heard} → Hearings (freshReader f) fresh reads heard
+    → heard ≡ streamHeard f (joined reads)
 demand3-any-caller f {reads} {heard} c =
-    let w = calling c fresh-whole in
+    let w = calling c (fresh-fit f) in
     w .heard-as ∙ ap (heardAs fresh) (any-caller f (w .calls))

@@ -1,8 +1,10 @@
--- Callers of `hear`, for demand 3: reads handed in one after another, and what a call left unused before the next. Over `heardBy` and
--- `standard` alone. Assumes nothing.
+-- Callers of `hear`, for demand 3: reads handed in one after another, and what a call left unused before the next. What a caller has heard is
+-- made of what its calls answer. Over `answerOf` and `standard` alone. Assumes nothing.
 use Prim.Native.Nat.{ℕ, zero, suc, _+_}
 use mathlib.Core.Path.{_≡_}
-use mathlib.Core.List.{List, [], _∷_, _++_, map}
+use mathlib.Core.Bool.{cond}
+use mathlib.Core.List.{List, [], _∷_, _++_, map, flatMap}
+use lib.Dec.{eqb}
 use lib.ListN.{length, drop}
 use Rattle.standard.specs.declared.Framing.{Framing}
 use Rattle.standard.specs.Judge.{Handed}
@@ -11,36 +13,59 @@ use Rattle.standard.specs.Replies.{replyOf}
 use Rattle.standard.specs.Table.{fresh, tableAfter}
 use Rattle.reader.specs.declared.Reader.{Reader}
 use Rattle.reader.specs.Calls.{joined, handedBefore}
-use Rattle.host.specs.Hear.{heardBy}
+use Rattle.host.specs.Hear.{answerOf}
 
--- what was handed out, the reply to each verdict (0: none), and the table at the end
+-- what was handed out, the reply to each verdict (0: none), the replies that were sent, and the table at the end
 pub record Heard : Type 0 where
   pub handed : List Handed
   pub replies : List ℕ
+  pub sent : List ℕ
   pub table : List ℕ
 
-abbrev pub repliesTo : List Handed → List ℕ
-repliesTo hs = map (λ h. replyOf (h .verdict) (h .typeByte)) hs
+-- what a host sends that is told a reply: nothing where there is none
+abbrev pub sends : ℕ → List ℕ
+sends reply = cond (eqb reply 0) [] (reply ∷ [])
+
+-- ---- the uncut stream
+
+abbrev pub replyFor : Handed → ℕ
+replyFor h = replyOf (h .verdict) (h .typeByte)
+
+-- some verdicts with their replies, and the table after them
+abbrev pub heardAs : List ℕ → List Handed → Heard
+heardAs t hs = record {
+  handed = hs;
+  replies = map replyFor hs;
+  sent = flatMap (λ h. sends (replyFor h)) hs;
+  table = tableAfter t hs;
+}
 
 -- THE UNCUT STREAM: split before every start byte, each part judged by itself, and its replies and table from a fresh one
 abbrev pub streamHeard : Framing → List ℕ → Heard
-streamHeard f stream = record {
-  handed = handedOf f stream;
-  replies = repliesTo (handedOf f stream);
-  table = tableAfter fresh (handedOf f stream);
-}
+streamHeard f stream = heardAs fresh (handedOf f stream)
 
--- one call more, before what later calls hear
-abbrev pub alsoHeard : List Handed → Heard → Heard
-alsoHeard said later = record { handed = said ++ later .handed; replies = repliesTo said ++ later .replies; table = later .table }
+-- ---- calls
+
+abbrev pub noCall : List ℕ → Heard
+noCall t = record { handed = []; replies = []; sent = []; table = t }
+
+-- one call more, before what later calls hear: what it said, and the reply that it told
+abbrev pub alsoHeard : List Handed → ℕ → Heard → Heard
+alsoHeard said reply later = record {
+  handed = said ++ later .handed;
+  replies = map (λ h. reply) said ++ later .replies;
+  sent = sends reply ++ later .sent;
+  table = later .table;
+}
 
 -- what n calls hear, or fewer where the reads are used up
 unfoldable pub hearingsOf : ℕ → Reader → List ℕ → List (List ℕ) → Heard
-hearingsOf zero r t reads = record { handed = []; replies = []; table = t }
-hearingsOf (suc n) r t [] = record { handed = []; replies = []; table = t }
+hearingsOf zero r t reads = noCall t
+hearingsOf (suc n) r t [] = noCall t
 hearingsOf (suc n) r t (bs ∷ reads) =
-    let a = heardBy r t bs in
-    alsoHeard (a .said) (hearingsOf n (a .reader) (tableAfter t (a .said)) (handedBefore (drop (a .used) bs) reads))
+    let a = answerOf r t bs in
+    let left = handedBefore (drop (a .gives .used) bs) reads in
+    alsoHeard (a .gives .said) (a .reply) (hearingsOf n (a .gives .reader) (a .table) left)
 
 -- THE RUN over a list of reads: a call uses a byte or ends a read, so that this many are enough
 unfoldable pub hearAll : Reader → List ℕ → List (List ℕ) → Heard
@@ -48,7 +73,8 @@ hearAll r t reads = hearingsOf (length (joined reads) + length reads) r t reads
 
 -- any caller: after a call it hands in what was left and what is still to come, cut again as it likes
 pub data Hearings : Reader → List ℕ → List (List ℕ) → Heard → Type 0 where
-  finished : {r : Reader} {t : List ℕ} → Hearings r t [] (record { handed = []; replies = []; table = t })
-  call : {r : Reader} {t bs : List ℕ} {reads again : List (List ℕ)} {later : Heard} → joined again ≡ drop (heardBy r t bs .used) bs ++ joined reads
-      → Hearings (heardBy r t bs .reader) (tableAfter t (heardBy r t bs .said)) again later
-      → Hearings r t (bs ∷ reads) (alsoHeard (heardBy r t bs .said) later)
+  finished : {r : Reader} {t : List ℕ} → Hearings r t [] (noCall t)
+  call : {r : Reader} {t bs : List ℕ} {reads again : List (List ℕ)} {later : Heard}
+      → joined again ≡ drop (answerOf r t bs .gives .used) bs ++ joined reads
+      → Hearings (answerOf r t bs .gives .reader) (answerOf r t bs .table) again later
+      → Hearings r t (bs ∷ reads) (alsoHeard (answerOf r t bs .gives .said) (answerOf r t bs .reply) later)

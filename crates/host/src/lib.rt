@@ -1,13 +1,12 @@
 // The host: one call reads up to the first verdict, puts a good message into the table and says
 // the reply. It is the one call that a unit's main loop makes.
 ghost use mathlib.Core.Path.{_≡_};
-ghost use mathlib.Core.List.{[], _∷_};
 ghost use Prim.Native.Nat.{_+_, _≤_};
 ghost use lib.ListN.{length, take, drop};
-ghost use Rattle.standard.specs.Replies.{replyNumber, replyOf};
+ghost use Rattle.standard.specs.Judge.{handedIn};
 ghost use Rattle.standard.specs.Table.{tableAfter};
-ghost use Rattle.standard.specs.Judge.{Handed, verdictFor, handedIn};
 ghost use Rattle.host.specs.Hear.{Hears};
+use reader::Mode;
 use reader::Reader;
 use standard::Reply;
 use standard::Said;
@@ -21,14 +20,81 @@ pub struct Hearing {
     pub reply: Reply,
 }
 
-// A good message, which stands in the reader's bytes after the length byte, goes into the table.
-fn store(table: &mut [u8], verdict: Verdict, bytes: &[u8])
-    requires { ⌜ verdict .length + 1 ≤ length (now bytes) ⌝ }
-    ensures { λ _. ⌜ now (table .exit) ≡ tableAfter (now (table .entry)) (handedIn (Said.Gave verdict) (now (bytes .entry))) ⌝ }
+// What one call gives whose frame's bytes stand in lent memory.
+pub struct Listened {
+    pub mode: Mode,
+    pub held: usize,
+    pub used: usize,
+    pub said: Said,
+    pub reply: Reply,
+}
+
+// A refused call: no byte is used, and there is no reply.
+fn refused(mode: Mode, held: usize, number: u8) -> Listened
+    ensures { λ r. ⌜ r ≡ record { mode = mode; held = held; used = 0; said = Said.Gave (record { number = number; «type_byte» = 0; length = 0 }); reply = Reply.Nothing } ⌝ }
+{
+    Listened {
+        mode,
+        held,
+        used: 0,
+        said: Said::Gave(Verdict {
+            number,
+            type_byte: 0,
+            length: 0,
+        }),
+        reply: Reply::Nothing,
+    }
+}
+
+// A good message, which stands in the frame's bytes after the length byte, goes into the table.
+fn store(table: &mut [u8], verdict: Verdict, frame: &[u8])
+    requires { ⌜ (verdict .number ≡ 0 → verdict .length + 1 ≤ length (now frame)) ⌝ }
+    ensures { λ _. ⌜ now (table .exit) ≡ tableAfter (now (table .entry)) (handedIn (Said.Gave verdict) (now (frame .entry))) ⌝ }
 {
     if verdict.number == 0 {
         let end = verdict.length as usize + 1;
-        table::apply(table, &bytes[1..end]);
+        table::apply(table, &frame[1..end]);
+    }
+}
+
+// `hear` with the frame's bytes in lent memory, of which there are as many as a reader has; any
+// other number of them is answered with 12.
+pub fn listen(
+    from: Mode,
+    count: usize,
+    frame: &mut [u8],
+    table: &mut [u8],
+    bytes: &[u8],
+) -> Listened
+    ensures { λ r. ⌜ Hears (record { mode = from; held = count; bytes = now (frame .entry) }) (now (table .entry)) (now (bytes .entry)) (record { mode = r .mode; held = r .held; bytes = now (frame .exit) }) (r .used) (r .said) (r .reply) (now (table .exit)) ⌝ }
+{
+    if table.len() != table::TABLE_BYTES {
+        return refused(from, count, 11);
+    }
+    if frame.len() != standard::LONGEST + 3 {
+        return refused(from, count, 12);
+    }
+    let answer = reader::scan(from, count, frame, bytes);
+    let mode = answer.mode;
+    let said = answer.said;
+    match said {
+        Said::Silent => Listened {
+            mode,
+            held: answer.held,
+            used: answer.used,
+            said: Said::Silent,
+            reply: Reply::Nothing,
+        },
+        Said::Gave(verdict) => {
+            store(table, verdict, frame);
+            Listened {
+                mode,
+                held: answer.held,
+                used: answer.used,
+                said: Said::Gave(verdict),
+                reply: replies::reply(verdict.number, verdict.type_byte),
+            }
+        }
     }
 }
 
@@ -36,37 +102,20 @@ fn store(table: &mut [u8], verdict: Verdict, bytes: &[u8])
 pub fn hear(reader: Reader, table: &mut [u8], bytes: &[u8]) -> Hearing
     ensures { λ r. ⌜ Hears reader (now (table .entry)) (now (bytes .entry)) (r .reader) (r .used) (r .said) (r .reply) (now (table .exit)) ⌝ }
 {
-    if table.len() != table::TABLE_BYTES {
-        return Hearing {
-            reader,
-            used: 0,
-            said: Said::Gave(Verdict {
-                number: 11,
-                type_byte: 0,
-                length: 0,
-            }),
-            reply: Reply::Nothing,
-        };
-    }
-    let reading = reader::read(reader, bytes);
-    let next = reading.reader;
-    let said = reading.said;
-    match said {
-        Said::Silent => Hearing {
-            reader: next,
-            used: reading.used,
-            said: Said::Silent,
-            reply: Reply::Nothing,
+    let from = reader.mode;
+    let mut frame = reader.bytes;
+    let answer = listen(from, reader.held, &mut frame, table, bytes);
+    let mode = answer.mode;
+    let said = answer.said;
+    let reply = answer.reply;
+    Hearing {
+        reader: Reader {
+            mode,
+            held: answer.held,
+            bytes: frame,
         },
-        Said::Gave(verdict) => {
-            let frame = next.bytes;
-            store(table, verdict, &frame);
-            Hearing {
-                reader: next,
-                used: reading.used,
-                said: Said::Gave(verdict),
-                reply: replies::reply(verdict.number, verdict.type_byte),
-            }
-        }
+        used: answer.used,
+        said,
+        reply,
     }
 }

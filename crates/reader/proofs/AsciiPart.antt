@@ -15,11 +15,12 @@ use Rattle.standard.specs.Messages.{lengthOk}
 use Rattle.standard.specs.Framing.{valueOf, digitsOf, pairs, noDigit}
 use Rattle.standard.specs.Judge.{handing, decided, unfinished, plain, wholeOf, atStop, ended, frameJudged, judgeAfter}
 use Rattle.standard.proofs.Framings.{digit-value}
+use Rattle.standard.proofs.Decided.{whole-front}
 use Rattle.reader.specs.declared.Mode.{Mode}
 use Rattle.reader.specs.declared.Mode.the-variants.{Open, Digit}
 use Rattle.reader.specs.Step.{framingOf, goes, ends, takes, takesDigit, goesOn}
 use Rattle.reader.proofs.Soundness.{Few, Fits, few-held}
-use Rattle.reader.proofs.Frames.{length-snoc, by-test, frame-bad, frame-short, frame-full, frame-end, whole-front, whole-stands, whole-sheet}
+use Rattle.reader.proofs.Frames.{length-snoc, by-test, frame-bad, frame-short, frame-full, frame-end, whole-stands, whole-sheet}
 use Rattle.reader.proofs.Judging.{andPending, spent, endFrom, spelt, leftOf, isOpen, On, Over, Does, on, over}
 
 -- ---- where the stop is due

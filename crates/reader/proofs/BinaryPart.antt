@@ -14,11 +14,12 @@ use Rattle.standard.specs.Messages.{lengthOk}
 use Rattle.standard.proofs.Messages.{length-ok}
 use Rattle.standard.specs.Framing.{Recovered, also, unstuff}
 use Rattle.standard.specs.Judge.{handing, decided, unfinished, ended, wholeOf}
+use Rattle.standard.proofs.Decided.{whole-front}
 use Rattle.reader.specs.declared.Mode.{Mode}
 use Rattle.reader.specs.declared.Mode.the-variants.{Open, Escape}
 use Rattle.reader.specs.Step.{framingOf, goes, ends, takes, goesOn}
 use Rattle.reader.proofs.Soundness.{Few, Fits}
-use Rattle.reader.proofs.Frames.{length-snoc, by-test, frame-bad, frame-short, frame-full, whole-front, whole-stands, whole-sheet}
+use Rattle.reader.proofs.Frames.{length-snoc, by-test, frame-bad, frame-short, frame-full, whole-stands, whole-sheet}
 use Rattle.reader.proofs.Judging.{given, leftOf, isOpen, Does, on, over}
 
 -- the byte b gives back x: the length, a byte of the message or a sum, or the last sum

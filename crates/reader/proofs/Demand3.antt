@@ -3,15 +3,16 @@
 use Prim.Native.Nat.{ℕ, zero, suc, _+_, _-_, _≤_}
 use native.Mathlib.Omega.{arith}
 use mathlib.Core.Path.{_≡_, refl, sym, ap, _∙_}
-use mathlib.Core.Bool.{true}
+use mathlib.Core.Bool.{true, false}
 use mathlib.Core.List.{List, [], _∷_, _++_, append-assoc}
 use lib.ListN.{length, take, drop, length-append, length-drop, take-append-drop}
 use Rattle.standard.specs.declared.Framing.{Framing}
-use Rattle.standard.specs.Messages.{checkOf}
+use Rattle.standard.specs.Messages.{among, checkOf}
 use Rattle.standard.specs.Framing.{startOf, frameOf}
-use Rattle.standard.specs.Judge.{Handed, handing}
+use Rattle.standard.specs.Judge.{Handed, decided, handing, judge}
 use Rattle.standard.specs.Stream.{handedOf}
 use Rattle.standard.proofs.Framings.{Bytes}
+use Rattle.standard.proofs.Decided.{handed-amid-part}
 use Rattle.standard.proofs.Stream.{handed-amid}
 use Rattle.reader.specs.declared.Reader.{Reader}
 use Rattle.reader.specs.Read.{Read, scanOf, stateOf, soundReader, freshReader, readOf}
@@ -97,7 +98,21 @@ reads-are-parts f reads =
 pub cuts : (f : Framing) (reads others : List (List ℕ)) → joined reads ≡ joined others → drive (freshReader f) reads ≡ drive (freshReader f) others
 cuts f reads others e = reads-are-parts f reads ∙ ap (handedOf f) e ∙ sym (reads-are-parts f others)
 
--- an intact frame is reported after all kinds of noise, and whatever follows it
+-- ---- an intact part is reported after all kinds of noise, and whatever follows it
+
+-- every part that is decided: a start byte, and bytes with no start among them of which the whole judgement is h. By any caller
+pub intact-calls : (f : Framing) (p part q : List ℕ) (h : Handed) {reads : List (List ℕ)} {hs : List Handed}
+    → among (startOf f) part ≡ false → judge f (startOf f ∷ part) ≡ decided h → joined reads ≡ p ++ (startOf f ∷ part ++ q)
+    → Calls (freshReader f) reads hs → hs ≡ handedOf f (p ++ (startOf f ∷ [])) ++ (h ∷ handedOf f q)
+intact-calls f p part q h clear d e c = any-caller f c ∙ ap (handedOf f) e ∙ handed-amid-part f p part q h clear d
+
+-- and by the caller that hands in what is left, then the next read
+pub intact-part : (f : Framing) (p part q : List ℕ) (h : Handed) (reads : List (List ℕ))
+    → among (startOf f) part ≡ false → judge f (startOf f ∷ part) ≡ decided h → joined reads ≡ p ++ (startOf f ∷ part ++ q)
+    → drive (freshReader f) reads ≡ handedOf f (p ++ (startOf f ∷ [])) ++ (h ∷ handedOf f q)
+intact-part f p part q h reads clear d e = reads-are-parts f reads ∙ ap (handedOf f) e ∙ handed-amid-part f p part q h clear d
+
+-- the written frame of a good message among them
 pub intact : (f : Framing) (p m q : List ℕ) (reads : List (List ℕ)) → checkOf m ≡ 0 → Bytes m → joined reads ≡ p ++ (frameOf f m ++ q)
     → drive (freshReader f) reads ≡ handedOf f (p ++ (startOf f ∷ [])) ++ (handing 0 m ∷ handedOf f q)
 intact f p m q reads h b e = reads-are-parts f reads ∙ ap (handedOf f) e ∙ handed-amid f p m q h b

@@ -6,12 +6,12 @@ use mathlib.Core.Bool.{Bool, true, false, cond, _&&_}
 use mathlib.Core.Option.{Option}
 use mathlib.Core.List.{List, [], _∷_, _++_}
 use lib.Dec.{eqb, leb}
-use lib.ListN.{length, take, drop, List·getD-append, length-append}
-use lib.Seq.{take-append-le}
+use lib.ListN.{length, take, drop, length-append}
 use borrow.Author.Tests.{leb-true, lt-ltb, le-ltb}
 use Rattle.standard.specs.Words.{firstOf}
 use Rattle.standard.specs.Messages.{lengthOk, messageTests}
 use Rattle.standard.specs.Judge.{Judged, plain, stuck, sumsDiffer, wholeOf, frameJudged}
+pub use Rattle.standard.proofs.Decided.{whole-front}
 use Rattle.standard.proofs.Messages.{both-true}
 
 pub length-snoc : (l : List ℕ) (b : ℕ) → length (l ++ (b ∷ [])) ≡ suc (length l)
@@ -43,12 +43,6 @@ frame-end [] fault e₁ e₂ h = refl
 frame-end (L ∷ rest) fault e₁ e₂ h = rw (h L rest refl)
 
 -- ---- a whole frame
-
--- bytes beyond the sums do not count
-pub whole-front : (stop : List (Bool × ℕ)) (L : ℕ) (rest more : List ℕ) → L + 2 ≤ length rest → wholeOf stop L (rest ++ more) ≡ wholeOf stop L rest
-unfolding wholeOf
-whole-front stop L rest more h =
-    rw (take-append-le L rest more (omega arith), List·getD-append rest more 0 L (omega arith), List·getD-append rest more 0 (L + 1) (omega arith))
 
 -- the message stands after the length byte of the bytes kept
 abbrev pub Stands : List ℕ → List ℕ → Type 0

@@ -5,8 +5,8 @@ use native.Mathlib.Numerals.{add-one}
 use native.Mathlib.Omega.{arith}
 use mathlib.Core.Path.{_≡_, refl, sym, ap, _∙_}
 use mathlib.Core.List.{List, [], _∷_, _++_, append-assoc, append-nil}
-use lib.ListN.{length, getD, take, drop, set, length-append, length-drop, drop-of-length-le}
-use lib.Seq.{sets, sets-eq, take-all, drop-cons, take-at, drop-drop, length-sets}
+use lib.ListN.{length, getD, take, drop, set, length-append, length-take, length-drop, drop-of-length-le}
+use lib.Seq.{sets, sets-eq, take-all, take-length, drop-cons, take-at, drop-drop, length-sets}
 use borrow.Rule.Slice.PartMut.{putMid}
 use Rattle.standard.specs.Words.{Put, laid}
 
@@ -69,3 +69,25 @@ mid-laid place part out h =
     ∙ ap (λ (l : List ℕ). take place out ++ (sets rest 0 part ++ l)) (drop-of-length-le rest short)
     ∙ ap (λ (l : List ℕ). take place out ++ l) (append-nil (sets rest 0 part))
     ∙ over place part out h
+
+-- the kit's `bytes::copy` into a buffer leaves the stores of what was copied: by its promise, `after` is that
+pub copied : (part buffer : List ℕ) {after : List ℕ} → length part ≤ length buffer
+    → after ≡ take (length part) part ++ drop (length part) buffer → after ≡ sets buffer 0 part
+copied part buffer {after} h e =
+    let n = length part in
+    let fit : 0 + n ≤ length buffer = omega arith in
+    e
+    ∙ ap (λ (l : List ℕ). l ++ drop n buffer) (take-length part)
+    ∙ ap (λ (k : ℕ). part ++ drop k buffer) (sym (zero-add n))
+    ∙ sym (sets-eq part buffer 0 fit)
+
+-- and into `&mut buffer[place..]`, said of the whole buffer as it comes back
+pub copied-from : (place : ℕ) (part buffer : List ℕ) {after : List ℕ} → place + length part ≤ length buffer
+    → after ≡ take (length part) part ++ drop (length part) (take (length buffer - place) (drop place buffer))
+    → Put buffer place part (putMid place (length buffer - place) buffer after) (place + length part)
+copied-from place part buffer {after} h e =
+    let n = length buffer - place in
+    let lent = take n (drop place buffer) in
+    let short : length part ≤ length lent = simp (length-take, length-drop) (omega arith) in
+    let stored = ap (putMid place n buffer) (copied part lent short e) in
+    record { bytes = stored ∙ mid-laid place part buffer h ∙ sym (sets-eq part buffer place h); end = refl }

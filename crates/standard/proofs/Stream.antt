@@ -4,10 +4,9 @@ use Prim.Native.Nat.{ℕ, suc, _+_}
 use native.Mathlib.Omega.{arith}
 use mathlib.Core.Path.{_≡_, refl, ap, ap₂, _∙_}
 use mathlib.Core.Bool.{Bool, true, false, cond, _||_}
-use mathlib.Core.List.{List, [], _∷_, _++_, cons≢nil, nil≢cons, head-eq-of-cons-eq}
+use mathlib.Core.List.{List, [], _∷_, _++_, append-nil, cons≢nil, nil≢cons, head-eq-of-cons-eq}
 use lib.Dec.{eqb}
 use lib.ListN.{length, length-append}
-use borrow.Author.Tests.{eq-eqb}
 use Rattle.standard.specs.declared.Framing.{Framing}
 use Rattle.standard.specs.declared.Framing.the-variants.{Binary, Ascii}
 use Rattle.standard.specs.declared.Said.{Said}
@@ -17,7 +16,8 @@ use Rattle.standard.specs.Framing.{startOf, stopOf, coding, bodyOf, fram
 use Rattle.standard.specs.Judge.{Judged, decided, unfinished, handing, judge, verdictsIn}
 use Rattle.standard.specs.Stream.{upToStart, partsOf, partHands, partsHand, handedOf}
 use Rattle.standard.proofs.Framings.{Bytes, body-bytes, among-append, start, no-mark}
-use Rattle.standard.proofs.Judge.{up-to-through, parts-through, handed-append, judge-frame}
+use Rattle.standard.proofs.Judge.{judge-frame}
+use Rattle.standard.proofs.Decided.{handed-part, handed-amid-part}
 
 -- the verdicts tell the case and its values
 pub verdicts-same : (x y : Said) → verdictsIn x ≡ verdictsIn y → x ≡ y
@@ -37,21 +37,24 @@ no-start f m =
     no-stop Binary = refl
     no-stop Ascii = refl
 
+-- so it is a part that is decided
+judged-good : (f : Framing) (m : List ℕ) → checkOf m ≡ 0 → Bytes m
+    → judge f (startOf f ∷ coding f (bodyOf m) ++ stopOf f) ≡ decided (handing 0 m)
+unfolding frameOf
+judged-good f m h b = rw append-nil at (judge-frame f m [] h (body-bytes m h b))
+
 -- it hands out its message, and then what follows it hands out its own
 pub handed-frame : (f : Framing) (m q : List ℕ) → checkOf m ≡ 0 → Bytes m → handedOf f (frameOf f m ++ q) ≡ handing 0 m ∷ handedOf f q
 unfolding frameOf
 handed-frame f m q h b =
-    let x = startOf f in
-    let body = coding f (bodyOf m) ++ stopOf f in
-    let none = no-start f m in
-    rw (eq-eqb x x refl, up-to-through x body q none, parts-through x body q none, judge-frame f m (upToStart x q) h (body-bytes m h b))
+    handed-part f (coding f (bodyOf m) ++ stopOf f) q (handing 0 m) (no-start f m) (judged-good f m h b)
 
 -- WHATEVER STANDS BEFORE AND AFTER IT: the bytes before are as if its start byte were their last
 pub handed-amid : (f : Framing) (p m q : List ℕ) → checkOf m ≡ 0 → Bytes m
     → handedOf f (p ++ (frameOf f m ++ q)) ≡ handedOf f (p ++ (startOf f ∷ [])) ++ (handing 0 m ∷ handedOf f q)
 unfolding frameOf
 handed-amid f p m q h b =
-    handed-append f p (coding f (bodyOf m) ++ stopOf f ++ q) ∙ ap (λ l. handedOf f (p ++ (startOf f ∷ [])) ++ l) (handed-frame f m q h b)
+    handed-amid-part f p (coding f (bodyOf m) ++ stopOf f) q (handing 0 m) (no-start f m) (judged-good f m h b)
 
 -- ---- how many verdicts
 

@@ -1,4 +1,4 @@
--- `host::store` meets its contract: the message is the part of the bytes after the length byte. Assumes nothing.
+-- `host::store` meets its contract: the message is the part of the frame after the length byte. Assumes nothing.
 use Rattle.standard.specs.Table.{tableAfter, appliedTo}
 use borrow.Author.Tests.{eq-eqb, ne-eqb}
 use lib.ListN.{take, drop}
@@ -22,7 +22,9 @@ part-apply-start : tie.Need-part-apply-start
 part-apply-start c = search needs
 
 part-apply-end : tie.Need-part-apply-end
-part-apply-end c = search needs
+part-apply-end c =
+    let test = c .before .before in
+    omega (arith, test .before .before .before .before .pre (test .if1 .taken))
 
 apply-requires : tie.Need-apply-requires
 apply-requires c κs = search needs
@@ -33,12 +35,14 @@ same-length c = search needs
 returns : tie.Need-returns
 unfolding tableAfter
 returns c =
-    let start = c .before .before .before .before .before .before .before .before .before .before in
+    let put = c .before .before in
+    let test = put .before .before .before .before in
+    let start = test .before .before .before .before in
     let v = start .args .verdict in
     let same : v .length + 1 - 1 ≡ v .length = omega arith in
-    c .before .before .apply .ensures .leaves
-    ∙ ap (λ (n : ℕ). appliedTo (start .args .table .now) (take n (drop 1 (start .args .bytes .now)))) same
-    ∙ sym (rw (eq-eqb _ _ (c .before .before .before .before .before .before .if1 .taken)))
+    put .apply .ensures .leaves
+    ∙ ap (λ (n : ℕ). appliedTo (start .args .table .now) (take n (drop 1 (start .args .frame .now)))) same
+    ∙ sym (rw (eq-eqb _ _ (test .if1 .taken)))
 
 returns-2 : tie.Need-returns-2
 unfolding tableAfter
