@@ -1,8 +1,8 @@
 pub mod Fit
-pub mod Part
+pub mod Pieces
+pub mod Lengths
 pub mod Answers
 pub mod RoundTrip
 pub mod ReadBack
 pub mod Needless
 pub mod Unique
-pub mod FreshReader

@@ -7,13 +7,13 @@ enum-told : tie.Need-enum-told
 enum-told c = search needs
 
 put-stuffed-requires : tie.Need-put-stuffed-requires
-put-stuffed-requires c κs = search needs
+put-stuffed-requires c κs = rw (c .before .enum-told .given .1) at (c .before .before .before .before .pre)
 
 enum-told-2 : tie.Need-enum-told-2
 enum-told-2 c = search needs
 
 put-digits-requires : tie.Need-put-digits-requires
-put-digits-requires c κs = search needs
+put-digits-requires c κs = rw (c .before .enum-told2 .given .1) at (c .before .before .before .before .pre)
 
 same-length : tie.Need-same-length
 same-length c = search needs

@@ -1,133 +1,129 @@
 -- `writer::put_frame` meets its contract: start, length, message, sums and stop, one after the other. Assumes nothing.
-use Prim.Native.Nat.{ℕ, _+_, _*_, _≤_}
+use Prim.Native.Nat.{ℕ, _≤_}
 use native.Mathlib.Omega.{arith}
-use mathlib.Core.Path.{_≡_, refl, sym, ap, _∙_}
-use mathlib.Core.List.{List, [], _∷_, _++_, flatMap, append-assoc, append-nil}
+use mathlib.Core.Path.{_≡_, sym, _∙_}
+use mathlib.Core.List.{List, _++_}
 use lib.ListN.{length, length-set}
 use borrow.Author.Needs.{needs}
 use Rattle.standard.specs.declared.Framing.{Framing}
 use Rattle.standard.specs.Words.{Put}
-use Rattle.standard.specs.Framing.{startOf, stopOf, coded, coding, bodyOf}
+use Rattle.standard.specs.Framing.{stopOf, coded, coding}
 use Rattle.standard.proofs.Put.{put-one, put-then, put-length}
-use Rattle.standard.proofs.Framings.{coding-append, coding-few, coded-one-or-two}
+use Rattle.writer.proofs.Pieces as pieces
 use Rattle.writer.proofs.put_frame.Statement.{statement}
 use Rattle.writer.proofs.put_frame.Tie as tie
 
-coding-cons : (f : Framing) (b : ℕ) (bs : List ℕ) → coding f (b ∷ bs) ≡ coded f b ++ coding f bs
-unfolding coding flatMap
-coding-cons f b bs = refl
+-- what was handed in
+abbrev m : tie.Start → List ℕ
+m s = s .args .message .now
 
-coding-none : (f : Framing) → coding f [] ≡ []
-unfolding coding flatMap
-coding-none f = refl
+abbrev f : tie.Start → Framing
+f s = s .args .framing
 
--- a body in the parts in which it is put
-parts : (f : Framing) (x L o t : ℕ) (m stop : List ℕ)
-    → (x ∷ []) ++ coded f L ++ coding f m ++ coded f o ++ coded f t ++ stop ≡ x ∷ coding f (L ∷ m ++ (o ∷ t ∷ [])) ++ stop
-parts f x L o t m stop =
-    let body : coding f (L ∷ m ++ (o ∷ t ∷ [])) ≡ coded f L ++ (coding f m ++ (coded f o ++ (coded f t ++ []))) =
-    coding-cons f L (m ++ (o ∷ t ∷ []))
-    ∙ ap (λ l. coded f L ++ l)
-    (coding-append f m (o ∷ t ∷ [])
-    ∙ ap (λ l. coding f m ++ l)
-    (coding-cons f o (t ∷ []) ∙ ap (λ l. coded f o ++ l) (coding-cons f t [] ∙ ap (λ l. coded f t ++ l) (coding-none f)))) in
-    let inner : coded f L ++ coding f m ++ coded f o ++ coded f t ≡ coded f L ++ (coding f m ++ (coded f o ++ (coded f t ++ []))) =
-    append-assoc (coded f L ++ coding f m) (coded f o) (coded f t)
-    ∙ append-assoc (coded f L) (coding f m) (coded f o ++ coded f t)
-    ∙ ap (λ l. coded f L ++ (coding f m ++ (coded f o ++ l))) (sym (append-nil (coded f t))) in
-    ap (λ l. x ∷ (l ++ stop)) (inner ∙ sym body)
+fits : (s : tie.Start) → pieces.Fits (f s) (m s) (length (s .args .frame .now))
+fits s = pieces.pieces-fit (f s) (m s) (length (s .args .frame .now)) (s .pre .1 .1)
 
-start-requires : tie.Need-start-requires
-start-requires c κs = search needs
+-- the beginning, from behind each piece
+abbrev from-length : tie.After-put-coded → tie.Start
+from-length c = c .before .before .before .before .before
+
+abbrev from-message : tie.After-put-message → tie.Start
+from-message c = from-length (c .before .before .before .before)
+
+abbrev from-one : tie.After-put-coded2 → tie.Start
+from-one c = from-message (c .before .before .before .before)
+
+abbrev from-two : tie.After-put-coded3 → tie.Start
+from-two c = from-one (c .before .before .before .before)
+
+-- what stands there then
+abbrev Stands : tie.Start → List ℕ → List ℕ → ℕ → Type 0
+Stands s part after next = Put (s .args .frame .now) 0 part after next
+
+length-stands : (c : tie.After-put-coded)
+    → Stands (from-length c) (pieces.toLength (f (from-length c)) (m (from-length c))) (c .put-coded .last .0)
+    (c .put-coded .result)
+length-stands c = rw (← c .before .before .start-of .ensures) (put-then (put-one _ 0 _) (c .put-coded .ensures))
+
+message-stands : (c : tie.After-put-message)
+    → Stands (from-message c) (pieces.toMessage (f (from-message c)) (m (from-message c))) (c .put-message .last .0)
+    (c .put-message .result)
+message-stands c = put-then (length-stands (c .before .before .before .before)) (c .put-message .ensures)
+
+one-stands : (c : tie.After-put-coded2)
+    → Stands (from-one c) (pieces.toOne (f (from-one c)) (m (from-one c))) (c .put-coded2 .last .0) (c .put-coded2 .result)
+one-stands c =
+    put-then (message-stands (c .before .before .before .before))
+    (rw (from-one c .pre .1 .0) at (c .put-coded2 .ensures))
+
+two-stands : (c : tie.After-put-coded3)
+    → Stands (from-two c) (pieces.toTwo (f (from-two c)) (m (from-two c))) (c .put-coded3 .last .0) (c .put-coded3 .result)
+two-stands c =
+    put-then (one-stands (c .before .before .before .before))
+    (rw (from-two c .pre .1 .0) at (c .put-coded3 .ensures))
+
+start-of-requires : tie.Need-start-of-requires
+start-of-requires c κs = search needs
 
 slice-write-frame : tie.Need-slice-write-frame
-slice-write-frame c = search needs
+slice-write-frame c = let room = fits (c .before .before .before) .size in omega (arith, room)
 
 cast-put-coded : tie.Need-cast-put-coded
 cast-put-coded c = search needs
 
 put-coded-requires : tie.Need-put-coded-requires
-put-coded-requires c κs = simp length-set (omega arith)
+put-coded-requires c κs =
+    let room = fits (c .before .before .before .before) .size in
+    simp length-set (omega (arith, room))
 
-put-summed-requires : tie.Need-put-summed-requires
-put-summed-requires c κs =
-    let s = c .before .before .before .before .before .before .before .before in
-    let f = s .args .framing in
-    let m = s .args .message .now in
-    let p = c .before .before .before .put-coded .ensures in
-    let first = coded-one-or-two f (length m) .few in
-    let size = length-set (s .args .frame .now) 0 (c .before .before .before .before .before .start .result) in
-    (s .pre .0, omega (arith, p .end, put-length p, first, size, s .pre .1))
+put-message-requires : tie.Need-put-message-requires
+put-message-requires c κs =
+    let put = c .before .before .before in
+    let s = from-length put in
+    pieces.next-fits (coding (f s) (m s)) (length-stands put) (fits s .message)
 
 put-coded-requires-2 : tie.Need-put-coded-requires-2
 put-coded-requires-2 c κs =
-    let s = c .before .before .before .before .before .before .before .before .before .before .before .before .before in
-    let f = s .args .framing in
-    let m = s .args .message .now in
-    let p = c .before .before .before .before .before .before .before .before .put-coded .ensures in
-    let first = coded-one-or-two f (length m) .few in
-    let size = length-set (s .args .frame .now) 0 (c .before .before .before .before .before .before .before .before .before .before .start .result) in
-    let q = c .before .before .before .before .put-summed .ensures .1 in
-    let few = coding-few f m in
-    omega (arith, p .end, put-length p, first, size, s .pre .1, q .end, put-length q, few)
+    let put = c .before .before .before in
+    let s = from-message put in
+    rw (s .pre .1 .0)
+    (pieces.next-fits (coded (f s) (pieces.one (f s) (m s))) (message-stands put) (fits s .sum1))
 
 put-coded-requires-3 : tie.Need-put-coded-requires-3
 put-coded-requires-3 c κs =
-    let s = c .before .before .before .before .before .before .before .before .before .before .before .before .before .before .before .before .before in
-    let f = s .args .framing in
-    let m = s .args .message .now in
-    let p = c .before .before .before .before .before .before .before .before .before .before .before .before .put-coded .ensures in
-    let first = coded-one-or-two f (length m) .few in
-    let size = length-set (s .args .frame .now) 0 (c .before .before .before .before .before .before .before .before .before .before .before .before .before .before .start .result) in
-    let q = c .before .before .before .before .before .before .before .before .put-summed .ensures .1 in
-    let few = coding-few f m in
-    let o = c .before .before .before .put-coded2 .ensures in
-    let one = coded-one-or-two f (c .before .before .before .before .before .before .before .before .put-summed .result .sums .one) .few in
-    omega (arith, p .end, put-length p, first, size, s .pre .1, q .end, put-length q, few, o .end, put-length o, one)
+    let put = c .before .before .before in
+    let s = from-one put in
+    rw (s .pre .1 .0)
+    (pieces.next-fits (coded (f s) (pieces.two (f s) (m s))) (one-stands put) (fits s .sum2))
 
 put-stop-requires : tie.Need-put-stop-requires
 put-stop-requires c κs =
-    let s = c .before .before .before .before .before .before .before .before .before .before .before .before .before .before .before .before .before .before .before .before .before in
-    let f = s .args .framing in
-    let m = s .args .message .now in
-    let p = c .before .before .before .before .before .before .before .before .before .before .before .before .before .before .before .before .put-coded .ensures in
-    let first = coded-one-or-two f (length m) .few in
-    let size = length-set (s .args .frame .now) 0 (c .before .before .before .before .before .before .before .before .before .before .before .before .before .before .before .before .before .before .start .result) in
-    let q = c .before .before .before .before .before .before .before .before .before .before .before .before .put-summed .ensures .1 in
-    let few = coding-few f m in
-    let o = c .before .before .before .before .before .before .before .put-coded2 .ensures in
-    let one = coded-one-or-two f (c .before .before .before .before .before .before .before .before .before .before .before .before .put-summed .result .sums .one) .few in
-    let t = c .before .before .before .put-coded3 .ensures in
-    let two = coded-one-or-two f (c .before .before .before .before .before .before .before .before .before .before .before .before .put-summed .result .sums .two) .few in
-    omega (arith, p .end, put-length p, first, size, s .pre .1, q .end, put-length q, few, o .end, put-length o, one, t .end, put-length t, two)
+    let put = c .before .before .before in
+    let s = from-two put in
+    pieces.next-fits (stopOf (f s)) (two-stands put) (fits s .stop)
+
+stands : (c : tie.After-put-stop)
+    → let s = from-two (c .before .before .before .before) in
+    Stands s (pieces.toTwo (f s) (m s) ++ stopOf (f s)) (c .put-stop .last .0) (c .put-stop .result)
+stands c = put-then (two-stands (c .before .before .before .before)) (c .put-stop .ensures)
 
 same-length : tie.Need-same-length
-same-length c =
-    put-length (c .before .before .put-stop .ensures) ∙ put-length (c .before .before .before .before .before .before .put-coded3 .ensures) ∙ put-length (c .before .before .before .before .before .before .before .before .before .before .put-coded2 .ensures)
-    ∙ put-length (c .before .before .before .before .before .before .before .before .before .before .before .before .before .before .before .put-summed .ensures .1) ∙ put-length (c .before .before .before .before .before .before .before .before .before .before .before .before .before .before .before .before .before .before .before .put-coded .ensures) ∙ simp length-set
+same-length c = put-length (stands (c .before .before))
 
 returns : tie.Need-returns
 returns c =
-    let s = c .before .before .before .before .before .before .before .before .before .before .before .before .before .before .before .before .before .before .before .before .before .before .before .before in
-    let f = s .args .framing in
-    let m = s .args .message .now in
-    let x = c .before .before .before .before .before .before .before .before .before .before .before .before .before .before .before .before .before .before .before .before .before .start .result in
-    let sums = c .before .before .before .before .before .before .before .before .before .before .before .before .before .before .before .put-summed .result .sums in
-    let is = c .before .before .before .before .before .before .before .before .before .before .before .before .before .before .before .put-summed .ensures .0 in
-    let put =
-    put-then (put-then (put-then (put-then (put-then (put-one (s .args .frame .now) 0 x) (c .before .before .before .before .before .before .before .before .before .before .before .before .before .before .before .before .before .before .before .put-coded .ensures)) (c .before .before .before .before .before .before .before .before .before .before .before .before .before .before .before .put-summed .ensures .1)) (c .before .before .before .before .before .before .before .before .before .before .put-coded2 .ensures)) (c .before .before .before .before .before .before .put-coded3 .ensures))
-    (c .before .before .put-stop .ensures) in
-    (is, rw (← c .before .before .before .before .before .before .before .before .before .before .before .before .before .before .before .before .before .before .before .before .before .start .ensures, ← is) (rw (parts f x (length m) (sums .one) (sums .two) m (stopOf f)) at put))
+    let s = from-two (c .before .before .before .before .before .before) in
+    rw (← pieces.pieces (f s) (m s)) (stands (c .before .before))
 
 pub put-frame-spec : {M : Type 1} → statement M
 put-frame-spec =
     tie.close
     (tie.spec
-    start-requires
+    start-of-requires
     slice-write-frame
     cast-put-coded
     put-coded-requires
-    put-summed-requires
+    put-message-requires
     put-coded-requires-2
     put-coded-requires-3
     put-stop-requires

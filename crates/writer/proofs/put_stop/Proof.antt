@@ -1,4 +1,5 @@
 -- `writer::put_stop` meets its contract: a stop is put where the framing has one. Assumes nothing.
+use native.Mathlib.Omega.{arith}
 use borrow.Author.Needs.{needs}
 use Rattle.standard.proofs.Put.{put-none, put-one}
 use Rattle.writer.proofs.put_stop.Statement.{statement}
@@ -11,7 +12,9 @@ enum-told-2 : tie.Need-enum-told-2
 enum-told-2 c = search needs
 
 slice-write-frame : tie.Need-slice-write-frame
-slice-write-frame c = search needs
+slice-write-frame c =
+    let room = rw (c .enum-told2 .given .1) at (c .before .before .pre) in
+    omega (arith, room)
 
 add-result : tie.Need-add-result
 add-result c = search needs

@@ -1,4 +1,7 @@
 -- `writer::put_stuffed` meets its contract: the tests are the definition's. Assumes nothing.
+use Prim.Native.Nat.{_+_, _≤_}
+use native.Mathlib.Omega.{arith}
+use lib.ListN.{length}
 use borrow.Author.Tests.{eq-eqb, ne-eqb}
 use borrow.Author.Needs.{needs}
 use Rattle.standard.proofs.Put.{put-one}
@@ -6,7 +9,9 @@ use Rattle.writer.proofs.put_stuffed.Statement.{statement}
 use Rattle.writer.proofs.put_stuffed.Tie as tie
 
 put-two-requires : tie.Need-put-two-requires
-put-two-requires c κs = search needs
+put-two-requires c κs =
+    let start = c .before in
+    rw (eq-eqb _ _ (start .if1 .taken)) at (start .before .before .pre)
 
 same-length : tie.Need-same-length
 same-length c = search needs
@@ -15,7 +20,9 @@ returns : tie.Need-returns
 returns c = rw (eq-eqb _ _ (c .before .before .before .before .if1 .taken)) (c .before .before .put-two .ensures)
 
 put-two-requires-2 : tie.Need-put-two-requires-2
-put-two-requires-2 c κs = search needs
+put-two-requires-2 c κs =
+    let start = c .before .before in
+    rw (ne-eqb _ _ (start .if1 .left), eq-eqb _ _ (c .before .if2 .taken)) at (start .before .before .pre)
 
 same-length-2 : tie.Need-same-length-2
 same-length-2 c = search needs
@@ -26,7 +33,10 @@ returns-2 c =
     rw (ne-eqb _ _ (tested .before .if1 .left), eq-eqb _ _ (tested .if2 .taken)) (c .before .before .put-two2 .ensures)
 
 slice-write-frame : tie.Need-slice-write-frame
-slice-write-frame c = search needs
+slice-write-frame c =
+    let start = c .before in
+    let room = rw (ne-eqb _ _ (start .if1 .left), ne-eqb _ _ (c .if2 .left)) at (start .before .before .pre) in
+    omega (arith, room)
 
 add-result : tie.Need-add-result
 add-result c = search needs

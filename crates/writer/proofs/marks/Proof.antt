@@ -1,0 +1,20 @@
+-- `writer::marks` meets its contract: each framing has a start, and its own stop. Assumes nothing.
+use native.Mathlib.Omega.{arith}
+use borrow.Author.Needs.{needs}
+use Rattle.writer.proofs.marks.Statement.{statement}
+use Rattle.writer.proofs.marks.Tie as tie
+
+enum-told : tie.Need-enum-told
+enum-told c = search needs
+
+enum-told-2 : tie.Need-enum-told-2
+enum-told-2 c = search needs
+
+returns : tie.Need-returns
+returns c = (rw (c .enum-told .given .1), omega arith)
+
+returns-2 : tie.Need-returns-2
+returns-2 c = (rw (c .enum-told2 .given .1), omega arith)
+
+pub marks-spec : {M : Type 1} → statement M
+marks-spec = tie.close (tie.spec enum-told enum-told-2 returns returns-2)
