@@ -4,7 +4,7 @@ use Prim.Native.Nat.{ℕ, zero, suc, _+_, _≤_}
 use native.Mathlib.Omega.{arith}
 use mathlib.Core.Path.{_≡_, refl, sym, ap, _∙_}
 use mathlib.Core.Bool.{Bool, true, false, cond}
-use mathlib.Core.List.{List, [], _∷_, _++_, map}
+use mathlib.Core.List.{List, [], _∷_, _++_, map, flatMap}
 use lib.Dec.{eqb}
 use lib.ListN.{length, take, drop}
 use lib.Seq.{take-append-seam}
@@ -21,16 +21,17 @@ use Rattle.reader.proofs.Arrays.{sound-read}
 use Rattle.reader.proofs.Handing.{saidFor, one-verdict, sound-verdict}
 use Rattle.reader.proofs.Demand3.{reads-are-parts, any-caller}
 use Rattle.host.specs.Hear.{replyTo}
-use Rattle.host.specs.Hearings.{Heard, repliesTo, streamHeard}
-use Rattle.host.proofs.Demand3.{after-append, after-length}
+use Rattle.host.specs.Hearings.{Heard, heardAs, streamHeard, alsoHeard}
+use Rattle.host.proofs.Answers.{one-said}
+use Rattle.host.proofs.Demand3.{after-length, also-as}
 use Rattle.nx584.specs.declared.CReader.{CReader}
 use Rattle.nx584.specs.declared.CReading.{CReading}
 use Rattle.nx584.specs.declared.CHearing.{CHearing}
 use Rattle.nx584.specs.Boundary.{framingFor, cReader, numberSaid, typeSaid, messageSaid, padded}
 use Rattle.nx584.specs.Boundary.{cTook, cRead, cReading, cHeard, cHearing, cLeft, CHears}
-use Rattle.nx584.specs.Callers.{handedBy, readingHands, hearingHands, hearingReplies, cFresh, alsoAnswered}
-use Rattle.nx584.specs.Callers.{cCallsOf, cDrive, CCalls, finished, call, cHearingsOf, cHearAll, CHearings}
-use Rattle.nx584.specs.Callers.{finished as no-hearing, call as one-hearing}
+use Rattle.nx584.specs.Callers.{handedBy, readingHands, hearingHands, cFresh}
+use Rattle.nx584.specs.Callers.{cCallsOf, cDrive, CCalls, finished, call}
+use Rattle.nx584.specs.Callers.{cHearingsOf, cHearAll, CHearings, done, hear}
 use Rattle.nx584.proofs.InC.{read-took, heard-c}
 use Rattle.nx584.proofs.Back.{reader-back, sound-back}
 
@@ -105,3 +106,66 @@ hear-back r t bs a after h w p =
       used = ap (λ (y : CHearing). y .used) x;
       left = p .leaves ∙ ap (λ y. tableAfter t (y .said)) e;
     }
+
+-- one answer more
+module _ (r : Reader) (t bs : List ℕ) (a : CHearing) (after : List ℕ) (x : Answers r t bs a after) where
+  also-answered : (hs : List Handed) → alsoHeard (hearingHands a) (a .reply) (heardAs after hs) ≡ heardAs t (readOf r bs .said ++ hs)
+  also-answered hs = rw (x .said, x .reply, x .left) (also-as t (readOf r bs .said) hs (one-said r bs))
+
+whole-after : (r : Reader) (t bs : List ℕ) → length t ≡ tableBytes → length (tableAfter t (readOf r bs .said)) ≡ tableBytes
+whole-after r t bs w = after-length t (readOf r bs .said) ∙ w
+
+hearings-same : (n : ℕ) (r : Reader) (t : List ℕ) (reads : List (List ℕ)) → soundReader r ≡ true → length t ≡ tableBytes
+    → cHearingsOf n (cReader r) t reads ≡ heardAs t (callsOf n r reads)
+unfolding cHearingsOf callsOf tableAfter flatMap
+hearings-same zero r t reads h w = refl
+hearings-same (suc n) r t [] h w = refl
+hearings-same (suc n) r t (bs ∷ reads) h w =
+    let a = cHearing (cHeard (cReader r) t bs) in
+    let x = hear-back r t bs a (cLeft (cReader r) t bs) h w (record { says = refl; leaves = refl }) in
+    let next = readOf r bs .reader in
+    let left = handedBefore (drop (readOf r bs .used) bs) reads in
+    rw (x .next, x .used)
+    (ap (alsoHeard (hearingHands a) (a .reply))
+    (ap (λ u. cHearingsOf n (cReader next) u left) (x .left)
+    ∙ hearings-same n next (tableAfter t (readOf r bs .said)) left (sound-read r bs h) (whole-after r t bs w)
+    ∙ ap (λ u. heardAs u (callsOf n next left)) (sym (x .left)))
+    ∙ also-answered r t bs a (cLeft (cReader r) t bs) x (callsOf n next left))
+
+fresh-whole : length fresh ≡ tableBytes
+unfolding fresh
+fresh-whole = refl
+
+-- DEMAND 3 for C: the caller that hands in what is left before the next read
+pub c-demand3 : (framing : ℕ) (reads : List (List ℕ)) → cHearAll (cFresh framing) fresh reads ≡ streamHeard (framingFor framing) (joined reads)
+unfolding cHearAll drive
+c-demand3 framing reads =
+    hearings-same (length (joined reads) + length reads) (freshReader (framingFor framing)) fresh reads refl fresh-whole
+    ∙ ap (heardAs fresh) (reads-are-parts (framingFor framing) reads)
+
+-- what any caller has heard, and that its reads are those of a caller of `read`
+record Calling (r : Reader) (t : List ℕ) (reads : List (List ℕ)) (heard : Heard) : Type 0 where
+  calls : Calls r reads (heard .handed)
+  heard-as : heard ≡ heardAs t (heard .handed)
+
+calling : {c : CReader} {t : List ℕ} {reads : List (List ℕ)} {heard : Heard} → CHearings c t reads heard
+    → (r : Reader) → c ≡ cReader r → soundReader r ≡ true → length t ≡ tableBytes → Calling r t reads heard
+unfolding tableAfter flatMap
+calling done r e h w = record { calls = no-call; heard-as = refl }
+calling (hear {c} {t} {bs} {after} {reads} {again} {later} {a} p j hearings) r e h w =
+    let x = hear-back r t bs a after h w (rw e at p) in
+    let whole : length after ≡ tableBytes = ap length (x .left) ∙ whole-after r t bs w in
+    let k = calling hearings (readOf r bs .reader) (x .next) (sound-read r bs h) whole in
+    record {
+      calls = rw (x .said) (one-call (rw (x .used) at j) (k .calls));
+      heard-as =
+          ap (alsoHeard (hearingHands a) (a .reply)) (k .heard-as) ∙ also-answered r t bs a after x (later .handed)
+          ∙ ap (λ hs. heardAs t (hs ++ later .handed)) (sym (x .said));
+    }
+
+-- and any caller
+pub c-demand3-any-caller : (framing : ℕ) {reads : List (List ℕ)} {heard : Heard} → CHearings (cFresh framing) fresh reads heard
+    → heard ≡ streamHeard (framingFor framing) (joined reads)
+c-demand3-any-caller framing c =
+    let w = calling c (freshReader (framingFor framing)) refl refl fresh-whole in
+    w .heard-as ∙ ap (heardAs fresh) (any-caller (framingFor framing) (w .calls))

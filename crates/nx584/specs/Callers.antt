@@ -9,7 +9,7 @@ use lib.ListN.{length, take, drop}
 use Rattle.standard.specs.Judge.{Handed}
 use Rattle.reader.specs.Read.{freshReader}
 use Rattle.reader.specs.Calls.{joined, handedBefore}
-use Rattle.host.specs.Hearings.{Heard}
+use Rattle.host.specs.Hearings.{Heard, noCall, alsoHeard}
 use Rattle.nx584.specs.declared.CReader.{CReader}
 use Rattle.nx584.specs.declared.CReading.{CReading}
 use Rattle.nx584.specs.declared.CHearing.{CHearing}
@@ -27,10 +27,6 @@ readingHands a = handedBy (a .verdict) (a .«type_byte») (a .length) (a .messag
 
 abbrev pub hearingHands : CHearing → List Handed
 hearingHands a = handedBy (a .verdict) (a .«type_byte») (a .length) (a .message)
-
--- the reply that goes with a verdict
-abbrev pub hearingReplies : CHearing → List ℕ
-hearingReplies a = cond (eqb (a .verdict) 255) [] (a .reply ∷ [])
 
 -- what `nx584_fresh` answers
 abbrev pub cFresh : ℕ → CReader
@@ -59,29 +55,18 @@ pub data CCalls : CReader → List (List ℕ) → List Handed → Type 0 where
 
 -- ---- callers of `nx584_hear`
 
-abbrev pub notYet : List ℕ → Heard
-notYet t = record { handed = []; replies = []; table = t }
-
--- one answer more, before what later calls hear
-abbrev pub alsoAnswered : CHearing → Heard → Heard
-alsoAnswered a later = record {
-  handed = hearingHands a ++ later .handed;
-  replies = hearingReplies a ++ later .replies;
-  table = later .table;
-}
-
 unfoldable pub cHearingsOf : ℕ → CReader → List ℕ → List (List ℕ) → Heard
-cHearingsOf zero c t reads = notYet t
-cHearingsOf (suc n) c t [] = notYet t
+cHearingsOf zero c t reads = noCall t
+cHearingsOf (suc n) c t [] = noCall t
 cHearingsOf (suc n) c t (bs ∷ reads) =
     let a = cHearing (cHeard c t bs) in
-    alsoAnswered a (cHearingsOf n (a .reader) (cLeft c t bs) (handedBefore (drop (a .used) bs) reads))
+    alsoHeard (hearingHands a) (a .reply) (cHearingsOf n (a .reader) (cLeft c t bs) (handedBefore (drop (a .used) bs) reads))
 
 unfoldable pub cHearAll : CReader → List ℕ → List (List ℕ) → Heard
 cHearAll c t reads = cHearingsOf (length (joined reads) + length reads) c t reads
 
 pub data CHearings : CReader → List ℕ → List (List ℕ) → Heard → Type 0 where
-  finished : {c : CReader} {t : List ℕ} → CHearings c t [] (notYet t)
-  call : {c : CReader} {t bs after : List ℕ} {reads again : List (List ℕ)} {later : Heard} {a : CHearing}
+  done : {c : CReader} {t : List ℕ} → CHearings c t [] (noCall t)
+  hear : {c : CReader} {t bs after : List ℕ} {reads again : List (List ℕ)} {later : Heard} {a : CHearing}
       → CHears c t bs a after → joined again ≡ drop (a .used) bs ++ joined reads → CHearings (a .reader) after again later
-      → CHearings c t (bs ∷ reads) (alsoAnswered a later)
+      → CHearings c t (bs ∷ reads) (alsoHeard (hearingHands a) (a .reply) later)
