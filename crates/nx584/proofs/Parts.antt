@@ -8,10 +8,13 @@ use lib.Dec.{eqb}
 use lib.ListN.{length, getD, take, drop, replicate, length-replicate, length-drop, drop-of-length-le}
 use lib.Seq.{take-length, length-take-le, drop-cons}
 use borrow.Author.Tests.{eqb-true}
-use Rattle.standard.specs.Table.{tableBytes, zonePlace, partitionPlace, systemPlace, zoneMark, zoneShort}
+use Rattle.standard.specs.Words.{byte}
+use Rattle.standard.specs.Table.{zonePlace, partitionPlace, systemPlace}
 use Rattle.standard.specs.Questions.{tableRefusal, partitionRefusal, zonePart, partitionPart, systemPart}
 use Rattle.standard.proofs.Questions.{asked-whole, asked-partition}
-use Rattle.nx584.specs.Records.{partUnless, partitionBytes, systemBytes}
+use Rattle.nx584.specs.declared.CPartition.{CPartition}
+use Rattle.nx584.specs.declared.CSystem.{CSystem}
+use Rattle.nx584.specs.Records.{partUnless, cPartition, cSystem}
 
 -- bytes copied over as many
 pub copied-all : (src over : List ℕ) {after : List ℕ} → length over ≤ length src
@@ -45,6 +48,46 @@ module _ (refusal size : ℕ) (value part : List ℕ) (sized : refusal ≡ 0 →
       go : (t : Bool) → eqb refusal 0 ≡ t → length (partUnless refusal size value) ≡ size
       go true e = rw e (sized (eqb-true refusal 0 e))
       go false e = rw e (length-replicate size 0)
+
+-- ---- what is told of a record that was copied
+
+abbrev pub toldPartition : ℕ → List ℕ → CPartition
+toldPartition number nine =
+    record { number = number; mark = byte 1 nine; flags = byte 9 nine; bytes = take 7 (drop 1 nine) }
+
+pub partition-told : (t : List ℕ) (partition : ℕ)
+    → toldPartition (partitionRefusal t partition) (partUnless (partitionRefusal t partition) 9 (partitionPart t partition))
+    ≡ cPartition t partition
+partition-told t partition = go (eqb (partitionRefusal t partition) 0)
+  where
+    part : List ℕ
+    part = partitionPart t partition
+    go : (ok : Bool) → toldPartition (partitionRefusal t partition) (cond ok part (replicate 9 0))
+        ≡ record {
+          number = partitionRefusal t partition;
+          mark = cond ok (byte 1 part) 0;
+          flags = cond ok (byte 9 part) 0;
+          bytes = cond ok (take 7 (drop 1 part)) (replicate 7 0);
+        }
+    go true = refl
+    go false = refl
+
+abbrev pub toldSystem : ℕ → List ℕ → CSystem
+toldSystem number twelve = record { number = number; mark = byte 1 twelve; bytes = drop 1 twelve }
+
+pub system-told : (t : List ℕ) → toldSystem (tableRefusal t) (partUnless (tableRefusal t) 12 (systemPart t)) ≡ cSystem t
+system-told t = go (eqb (tableRefusal t) 0)
+  where
+    part : List ℕ
+    part = systemPart t
+    go : (ok : Bool) → toldSystem (tableRefusal t) (cond ok part (replicate 12 0))
+        ≡ record {
+          number = tableRefusal t;
+          mark = cond ok (byte 1 part) 0;
+          bytes = cond ok (drop 1 part) (replicate 11 0);
+        }
+    go true = refl
+    go false = refl
 
 -- ---- the sizes of the parts
 

@@ -28,27 +28,19 @@ cZone t zone = record {
   bytes = partUnless (tableRefusal t) 6 (zonePart t zone);
 }
 
--- a partition's nine bytes, from its mark to its short byte
-abbrev pub partitionBytes : List ℕ → ℕ → List ℕ
-partitionBytes t partition = partUnless (partitionRefusal t partition) 9 (partitionPart t partition)
-
 -- a partition: 0, or 11, then 8; its mark, the short byte of 07h, and the seven bytes of 06h
 abbrev pub cPartition : List ℕ → ℕ → CPartition
 cPartition t partition = record {
   number = partitionRefusal t partition;
-  mark = byte 1 (partitionBytes t partition);
-  flags = byte 9 (partitionBytes t partition);
-  bytes = take 7 (drop 1 (partitionBytes t partition));
+  mark = byteUnless (partitionRefusal t partition) (byte 1 (partitionPart t partition));
+  flags = byteUnless (partitionRefusal t partition) (byte 9 (partitionPart t partition));
+  bytes = partUnless (partitionRefusal t partition) 7 (take 7 (drop 1 (partitionPart t partition)));
 }
-
--- the system's twelve bytes, from its mark on
-abbrev pub systemBytes : List ℕ → List ℕ
-systemBytes t = partUnless (tableRefusal t) 12 (systemPart t)
 
 -- the system: 0 or 11, its mark, and the eleven bytes of 08h
 abbrev pub cSystem : List ℕ → CSystem
 cSystem t = record {
   number = tableRefusal t;
-  mark = byte 1 (systemBytes t);
-  bytes = drop 1 (systemBytes t);
+  mark = byteUnless (tableRefusal t) (byte 1 (systemPart t));
+  bytes = partUnless (tableRefusal t) 11 (drop 1 (systemPart t));
 }

@@ -4,20 +4,22 @@ use mathlib.Core.Path.{_≡_, _∙_}
 use lib.ListN.{length, take, drop, length-drop}
 use lib.Seq.{length-take-le}
 use Rattle.standard.specs.Questions.{partitionRefusal, partitionPart}
-use Rattle.nx584.specs.Records.{partitionBytes}
-use Rattle.nx584.proofs.Parts.{partition-sized, part-fits, part-copied, copied-all}
+use Rattle.nx584.specs.Records.{partUnless}
+use Rattle.nx584.proofs.Parts.{partition-sized, part-fits, part-copied, copied-all, partition-told}
 use borrow.Author.Needs.{needs}
 use Rattle.nx584.proofs.nx584_partition.Statement.{statement}
 use Rattle.nx584.proofs.nx584_partition.Tie as tie
 
 -- the record's bytes after the first copy
-filled : (c : tie.After-copy) → c .copy .last .1 .0
-    ≡ partitionBytes (c .before .before .before .before .before .args .table .now) (c .before .before .before .before .before .args .partition)
+filled : (c : tie.After-copy)
+    → (let args = c .before .before .before .before .before .args in
+    let refusal = partitionRefusal (args .table .now) (args .partition) in
+    c .copy .last .1 .0 ≡ partUnless refusal 9 (partitionPart (args .table .now) (args .partition)))
 filled c =
     let part = c .before .before in
-    let s = part .before .before .before in
-    let t = s .args .table .now in
-    let p = s .args .partition in
+    let args = part .before .before .before .args in
+    let t = args .table .now in
+    let p = args .partition in
     part-copied (partitionRefusal t p) 9 (partitionPart t p) _ (partition-sized t p) (part .partition-part .ensures .gives) (c .copy .ensures .1)
 
 partition-part-requires : tie.Need-partition-part-requires
@@ -62,7 +64,9 @@ returns c =
     let size : length nine ≡ 9 = search needs in
     let seven : length (take 7 (drop 1 nine)) ≡ 7 = length-take-le 7 (drop 1 nine) (omega (arith, length-drop 1 nine)) in
     let bytes = copied-all (take 7 (drop 1 nine)) _ (omega (arith, seven)) (c .before .copy2 .ensures .1) in
+    let args = copy .before .before .before .before .before .args in
     rw (copy .before .before .partition-part .ensures .says, bytes, filled copy)
+    (partition-told (args .table .now) (args .partition))
 
 pub nx584-partition-spec : {M : Type 1} → statement M
 nx584-partition-spec =

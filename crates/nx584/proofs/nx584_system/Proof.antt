@@ -4,14 +4,16 @@ use mathlib.Core.Path.{_≡_, _∙_}
 use lib.ListN.{length, take, drop, length-drop}
 use lib.Seq.{take-all}
 use Rattle.standard.specs.Questions.{tableRefusal, systemPart}
-use Rattle.nx584.specs.Records.{systemBytes}
-use Rattle.nx584.proofs.Parts.{system-sized, part-fits, part-copied, copied-all}
+use Rattle.nx584.specs.Records.{partUnless}
+use Rattle.nx584.proofs.Parts.{system-sized, part-fits, part-copied, copied-all, system-told}
 use borrow.Author.Needs.{needs}
 use Rattle.nx584.proofs.nx584_system.Statement.{statement}
 use Rattle.nx584.proofs.nx584_system.Tie as tie
 
 -- the record's bytes after the first copy
-filled : (c : tie.After-copy) → c .copy .last .1 .0 ≡ systemBytes (c .before .before .before .before .before .args .table .now)
+filled : (c : tie.After-copy)
+    → (let t = c .before .before .before .before .before .args .table .now in
+    c .copy .last .1 .0 ≡ partUnless (tableRefusal t) 12 (systemPart t))
 filled c =
     let part = c .before .before in
     let t = part .before .before .before .args .table .now in
@@ -56,6 +58,7 @@ returns c =
     let all = take-all 11 (drop 1 twelve) (omega arith) in
     let bytes = copied-all (take 11 (drop 1 twelve)) _ (rw all (omega (arith, rest))) (c .before .copy2 .ensures .1) ∙ all in
     rw (copy .before .before .system-part .ensures .says, bytes, filled copy)
+    (system-told (copy .before .before .before .before .before .args .table .now))
 
 pub nx584-system-spec : {M : Type 1} → statement M
 nx584-system-spec =
