@@ -1,25 +1,82 @@
--- Two answers that meet a promise of the boundary are equal, and leave the same bytes. Every promise but three is an equation with a
--- definition; those three are records of two such equations. Assumes nothing.
+-- Each exported function's contract settles its answer, and every byte of what it was lent: two answers that meet the predicate that the contract
+-- generates are equal. Assumes nothing.
 use mathlib.Core.Path.{_≡_, sym, _∙_}
-use mathlib.Core.List.{List}
-use Prim.Native.Nat.{ℕ}
-use Rattle.standard.specs.Table.{Applied}
-use Rattle.nx584.specs.declared.CReader.{CReader}
-use Rattle.nx584.specs.declared.CHearing.{CHearing}
-use Rattle.nx584.specs.declared.CWritten.{CWritten}
-use Rattle.nx584.specs.Boundary.{CHears, CWrote}
+use borrow.Fn.Kinds.{Dens, endedOf, resT}
+use contract.Lifetimes.{Lfts}
+use denote.Ref.{now}
+use denote.Triple.Clauses.{AtExit}
+use Rattle.nx584.proofs.nx584_fresh.Kinds as fresh-kinds
+use Rattle.nx584.proofs.nx584_fresh.Reads as fresh
+use Rattle.nx584.proofs.nx584_read.Kinds as read-kinds
+use Rattle.nx584.proofs.nx584_read.Reads as read
+use Rattle.nx584.proofs.nx584_step.Kinds as step-kinds
+use Rattle.nx584.proofs.nx584_step.Reads as step
+use Rattle.nx584.proofs.nx584_write.Kinds as write-kinds
+use Rattle.nx584.proofs.nx584_write.Reads as write
+use Rattle.nx584.proofs.nx584_reply.Kinds as reply-kinds
+use Rattle.nx584.proofs.nx584_reply.Reads as reply
+use Rattle.nx584.proofs.nx584_apply.Kinds as apply-kinds
+use Rattle.nx584.proofs.nx584_apply.Reads as apply
+use Rattle.nx584.proofs.nx584_view.Kinds as view-kinds
+use Rattle.nx584.proofs.nx584_view.Reads as view
+use Rattle.nx584.proofs.nx584_hear.Kinds as hear-kinds
+use Rattle.nx584.proofs.nx584_hear.Reads as hear
+use Rattle.nx584.proofs.nx584_zone.Kinds as zone-kinds
+use Rattle.nx584.proofs.nx584_zone.Reads as zone
+use Rattle.nx584.proofs.nx584_partition.Kinds as partition-kinds
+use Rattle.nx584.proofs.nx584_partition.Reads as partition
+use Rattle.nx584.proofs.nx584_system.Kinds as system-kinds
+use Rattle.nx584.proofs.nx584_system.Reads as system
+use Rattle.nx584.proofs.nx584_version.Kinds as version-kinds
+use Rattle.nx584.proofs.nx584_version.Reads as version
 
--- `nx584_fresh`, `nx584_step`, `nx584_read`, `nx584_reply`, `nx584_view`
-pub answer-one : {A : Type 0} {promised : A} (x y : A) → x ≡ promised → y ≡ promised → x ≡ y
-answer-one x y p q = p ∙ sym q
+pub nx584-fresh-unique : (κs : Lfts 0) (a : Dens κs fresh-kinds.ps) (e : AtExit (endedOf 0 fresh-kinds.ps fresh-kinds.r) κs)
+    (x y : resT fresh-kinds.r κs .Denot) → fresh.Post κs a x e → fresh.Post κs a y e → x ≡ y
+nx584-fresh-unique κs a e x y p q = p ∙ sym q
 
-pub hear-one : (c : CReader) (t bs : List ℕ) (x y : CHearing) (after other : List ℕ)
-    → CHears c t bs x after → CHears c t bs y other → (x ≡ y) × (after ≡ other)
-hear-one c t bs x y after other p q = (answer-one x y (p .says) (q .says), answer-one after other (p .leaves) (q .leaves))
+pub nx584-read-unique : (κs : Lfts 1) (a : Dens κs read-kinds.ps) (e : AtExit (endedOf 1 read-kinds.ps read-kinds.r) κs)
+    (x y : resT read-kinds.r κs .Denot) → read.Post κs a x e → read.Post κs a y e → x ≡ y
+nx584-read-unique κs a e x y p q = p ∙ sym q
 
-pub write-one : (m : List ℕ) (framing : ℕ) (out : List ℕ) (place : ℕ) (x y : CWritten) (after other : List ℕ)
-    → CWrote m framing out place x after → CWrote m framing out place y other → (x ≡ y) × (after ≡ other)
-write-one m framing out place x y after other p q = (answer-one x y (p .says) (q .says), answer-one after other (p .leaves) (q .leaves))
+pub nx584-step-unique : (κs : Lfts 0) (a : Dens κs step-kinds.ps) (e : AtExit (endedOf 0 step-kinds.ps step-kinds.r) κs)
+    (x y : resT step-kinds.r κs .Denot) → step.Post κs a x e → step.Post κs a y e → x ≡ y
+nx584-step-unique κs a e x y p q = p ∙ sym q
 
-pub apply-one : (t m : List ℕ) (x y : ℕ) (after other : List ℕ) → Applied t m x after → Applied t m y other → (x ≡ y) × (after ≡ other)
-apply-one t m x y after other p q = (answer-one x y (p .says) (q .says), answer-one after other (p .leaves) (q .leaves))
+pub nx584-write-unique : (κs : Lfts 2) (a : Dens κs write-kinds.ps) (e e′ : AtExit (endedOf 2 write-kinds.ps write-kinds.r) κs)
+    (x y : resT write-kinds.r κs .Denot) → write.Post κs a x e → write.Post κs a y e′
+    → (x ≡ y) × (now (e .1 .1 .0) ≡ now (e′ .1 .1 .0))
+nx584-write-unique κs a e e′ x y p q = (p .says ∙ sym (q .says), p .leaves ∙ sym (q .leaves))
+
+pub nx584-reply-unique : (κs : Lfts 0) (a : Dens κs reply-kinds.ps) (e : AtExit (endedOf 0 reply-kinds.ps reply-kinds.r) κs)
+    (x y : resT reply-kinds.r κs .Denot) → reply.Post κs a x e → reply.Post κs a y e → x ≡ y
+nx584-reply-unique κs a e x y p q = p ∙ sym q
+
+pub nx584-apply-unique : (κs : Lfts 2) (a : Dens κs apply-kinds.ps) (e e′ : AtExit (endedOf 2 apply-kinds.ps apply-kinds.r) κs)
+    (x y : resT apply-kinds.r κs .Denot) → apply.Post κs a x e → apply.Post κs a y e′
+    → (x ≡ y) × (now (e .0) ≡ now (e′ .0))
+nx584-apply-unique κs a e e′ x y p q = (p .says ∙ sym (q .says), p .leaves ∙ sym (q .leaves))
+
+pub nx584-view-unique : (κs : Lfts 1) (a : Dens κs view-kinds.ps) (e : AtExit (endedOf 1 view-kinds.ps view-kinds.r) κs)
+    (x y : resT view-kinds.r κs .Denot) → view.Post κs a x e → view.Post κs a y e → x ≡ y
+nx584-view-unique κs a e x y p q = p ∙ sym q
+
+pub nx584-hear-unique : (κs : Lfts 2) (a : Dens κs hear-kinds.ps) (e e′ : AtExit (endedOf 2 hear-kinds.ps hear-kinds.r) κs)
+    (x y : resT hear-kinds.r κs .Denot) → hear.Post κs a x e → hear.Post κs a y e′
+    → (x ≡ y) × (now (e .1 .0) ≡ now (e′ .1 .0))
+nx584-hear-unique κs a e e′ x y p q = (p .says ∙ sym (q .says), p .leaves ∙ sym (q .leaves))
+
+pub nx584-zone-unique : (κs : Lfts 1) (a : Dens κs zone-kinds.ps) (e : AtExit (endedOf 1 zone-kinds.ps zone-kinds.r) κs)
+    (x y : resT zone-kinds.r κs .Denot) → zone.Post κs a x e → zone.Post κs a y e → x ≡ y
+nx584-zone-unique κs a e x y p q = p ∙ sym q
+
+pub nx584-partition-unique : (κs : Lfts 1) (a : Dens κs partition-kinds.ps) (e : AtExit (endedOf 1 partition-kinds.ps partition-kinds.r) κs)
+    (x y : resT partition-kinds.r κs .Denot) → partition.Post κs a x e → partition.Post κs a y e → x ≡ y
+nx584-partition-unique κs a e x y p q = p ∙ sym q
+
+pub nx584-system-unique : (κs : Lfts 1) (a : Dens κs system-kinds.ps) (e : AtExit (endedOf 1 system-kinds.ps system-kinds.r) κs)
+    (x y : resT system-kinds.r κs .Denot) → system.Post κs a x e → system.Post κs a y e → x ≡ y
+nx584-system-unique κs a e x y p q = p ∙ sym q
+
+pub nx584-version-unique : (κs : Lfts 0) (a : Dens κs version-kinds.ps) (e : AtExit (endedOf 0 version-kinds.ps version-kinds.r) κs)
+    (x y : resT version-kinds.r κs .Denot) → version.Post κs a x e → version.Post κs a y e → x ≡ y
+nx584-version-unique κs a e x y p q = p ∙ sym q

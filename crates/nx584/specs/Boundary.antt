@@ -34,7 +34,7 @@ use Rattle.nx584.specs.declared.COverview.{COverview}
 
 -- ---- a reader in numbers
 
--- "framing 0 is binary, any other ASCII"
+-- framing 0 is binary, any other ASCII
 abbrev pub framingFor : ℕ → Framing
 framingFor n = cond (eqb n 0) Binary Ascii
 
@@ -55,7 +55,7 @@ digitNumber (Open f) = 0
 digitNumber Escape = 0
 digitNumber (Digit d) = d
 
--- "Mode 2 in ASCII and mode 3 in binary read as mode 1"
+-- mode 2 in ASCII and mode 3 in binary read as mode 1
 abbrev pub pendingFor : Framing → ℕ → ℕ → Mode
 pendingFor Binary mode digit = cond (eqb mode 2) Escape (Open Binary)
 pendingFor Ascii mode digit = cond (eqb mode 3) (Digit digit) (Open Ascii)
@@ -64,7 +64,11 @@ abbrev pub modeFor : Framing → ℕ → ℕ → Mode
 modeFor f mode digit = cond (eqb mode 0) (Skipping f) (pendingFor f mode digit)
 
 abbrev pub readerFor : CReader → Reader
-readerFor c = record { mode = modeFor (framingFor (c .framing)) (c .mode) (c .digit); held = c .held; bytes = c .bytes }
+readerFor c = record {
+  mode = modeFor (framingFor (c .framing)) (c .mode) (c .digit);
+  held = c .held;
+  bytes = c .bytes;
+}
 
 abbrev pub cReader : Reader → CReader
 cReader r = record {
@@ -75,9 +79,17 @@ cReader r = record {
   bytes = r .bytes;
 }
 
--- "another mode is unsound", "a mode 3 digit at most 15, in both", and document 01's soundness
+-- a mode above 3 is unsound, and so is mode 3 with a digit above 15, in both framings; the rest is document 01's soundness
 unfoldable pub soundC : CReader → Bool
 soundC c = leb (c .mode) 3 && (cond (eqb (c .mode) 3) (leb (c .digit) 15) true && soundReader (readerFor c))
+
+-- the numbers that a call answers: framing 0 or 1, mode 2 in binary alone, mode 3 in ASCII alone, and a digit in mode 3 alone
+abbrev pub settled : CReader → Bool
+settled c =
+    leb (c .framing) 1
+    && leb (c .mode) 3
+    && cond (eqb (c .mode) 2) (eqb (c .framing) 0) true
+    && cond (eqb (c .mode) 3) (eqb (c .framing) 1) (eqb (c .digit) 0)
 
 -- ---- what was said, in numbers
 
@@ -115,7 +127,7 @@ pub record CGiven : Type 0 where
   pub used : ℕ
   pub said : List Handed
 
--- "On 11 and 12 every field of the reader comes back as handed in", and no byte is used
+-- on 11 and 12 every field of the reader comes back as it was handed in, and no byte is used
 abbrev pub cRefused : CReader → ℕ → CGiven
 cRefused c number = record { reader = c; used = 0; said = handing number [] ∷ [] }
 
@@ -157,10 +169,14 @@ withReply l reply = record {
 abbrev pub cHearing : CGiven → CHearing
 cHearing a = withReply (cReading a) (replyTo (a .said))
 
+-- the table that `nx584_hear` leaves
+abbrev pub cLeft : CReader → List ℕ → List ℕ → List ℕ
+cLeft c t bs = tableAfter t (cHeard c t bs .said)
+
 -- what `nx584_hear` promises: its answer, and every byte of the table
 pub record CHears (c : CReader) (t bs : List ℕ) (answer : CHearing) (after : List ℕ) : Type 0 where
   pub says : answer ≡ cHearing (cHeard c t bs)
-  pub leaves : after ≡ tableAfter t (cHeard c t bs .said)
+  pub leaves : after ≡ cLeft c t bs
 
 -- the writer's answer
 abbrev pub cWritten : Written → CWritten
@@ -171,7 +187,7 @@ pub record CWrote (m : List ℕ) (framing : ℕ) (out : List ℕ) (place : ℕ) 
   pub says : answer ≡ cWritten (writtenOf m (framingFor framing) out place)
   pub leaves : after ≡ afterWrite m (framingFor framing) out place
 
--- "known is 1 exactly if heard > 0. Where it is 0, share is a NaN"
+-- known is 1 exactly if some zone is heard; where it is 0, the share is a NaN
 abbrev pub cGroup : Counted → CGroup
 cGroup g = record {
   heard = g .heard;

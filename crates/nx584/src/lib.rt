@@ -3,7 +3,6 @@ use reader::Mode;
 use reader::Reader;
 use standard::Framing;
 use standard::Group;
-use standard::Reply;
 use standard::Said;
 use standard::Share;
 use standard::Verdict;
@@ -16,14 +15,17 @@ ghost use Prim.Native.Nat.{ℕ, _≤_};
 ghost use lib.Ieee.{nan};
 ghost use lib.ListN.{length, take};
 ghost use Rattle.standard.specs.Judge.{handedIn};
-ghost use Rattle.standard.specs.Replies.{replyNumber, replyOf};
+ghost use Rattle.standard.specs.Messages.{longest};
+ghost use Rattle.standard.specs.Replies.{replyOf};
 ghost use Rattle.standard.specs.Table.{Applied, appliedTo};
 ghost use Rattle.standard.specs.Overview.{seenOf, shareNumber, groupValues};
+ghost use Rattle.reader.specs.Step.{framingOf};
 ghost use Rattle.reader.specs.Read.{freshReader};
-ghost use Rattle.nx584.specs.Boundary.{framingFor, framingNumber, pendingFor, readerFor, cReader, soundC, lengthSaid, numbersSaid, padded, cRefused, cReading, withReply, cRead, CHears, CWrote, cGroup, cOverview};
+ghost use Rattle.nx584.specs.Records.{cZone, cPartition, cSystem};
+ghost use Rattle.nx584.specs.Boundary.{framingFor, framingNumber, modeNumber, digitNumber, pendingFor, readerFor, cReader, soundC, lengthSaid, numbersSaid, padded, cRefused, cReading, withReply, cRead, CHears, CWrote, cGroup, cOverview};
 
 // NX584_LONGEST: the most bytes of a message.
-const LONGEST: usize = 18;
+const LONGEST: usize = standard::LONGEST;
 
 // The most bytes that a reader holds: the length, the longest message and two sums.
 const MOST: usize = LONGEST + 3;
@@ -86,6 +88,32 @@ pub struct CHearing {
     pub message: [u8; LONGEST],
 }
 
+// A zone's record: number 0 or 11, mark, short flags, and the bytes from mask to condition flags 2.
+#[repr(C)]
+pub struct CZone {
+    pub number: u8,
+    pub mark: u8,
+    pub flags: u8,
+    pub bytes: [u8; 6],
+}
+
+// A partition's record: number 0, 11 or 8, mark, short byte, and the seven bytes of 06h.
+#[repr(C)]
+pub struct CPartition {
+    pub number: u8,
+    pub mark: u8,
+    pub flags: u8,
+    pub bytes: [u8; 7],
+}
+
+// The system record: number 0 or 11, mark, and the eleven bytes of 08h.
+#[repr(C)]
+pub struct CSystem {
+    pub number: u8,
+    pub mark: u8,
+    pub bytes: [u8; 11],
+}
+
 fn framing_for(framing: u8) -> Framing
     ensures { λ r. ⌜ r ≡ framingFor framing ⌝ }
 {
@@ -102,6 +130,39 @@ fn framing_number(framing: Framing) -> u8
     match framing {
         Framing::Binary => 0,
         Framing::Ascii => 1,
+    }
+}
+
+fn framing_of(mode: Mode) -> u8
+    ensures { λ r. ⌜ r ≡ framingNumber (framingOf mode) ⌝ }
+{
+    match mode {
+        Mode::Skipping(f) => framing_number(f),
+        Mode::Open(f) => framing_number(f),
+        Mode::Escape => 0,
+        Mode::Digit(d) => 1,
+    }
+}
+
+fn mode_number(mode: Mode) -> u8
+    ensures { λ r. ⌜ r ≡ modeNumber mode ⌝ }
+{
+    match mode {
+        Mode::Skipping(f) => 0,
+        Mode::Open(f) => 1,
+        Mode::Escape => 2,
+        Mode::Digit(d) => 3,
+    }
+}
+
+fn digit_number(mode: Mode) -> u8
+    ensures { λ r. ⌜ r ≡ digitNumber mode ⌝ }
+{
+    match mode {
+        Mode::Skipping(f) => 0,
+        Mode::Open(f) => 0,
+        Mode::Escape => 0,
+        Mode::Digit(d) => d,
     }
 }
 
@@ -149,36 +210,12 @@ fn c_reader(reader: Reader) -> CReader
 {
     let mode = reader.mode;
     let bytes = reader.bytes;
-    let held = reader.held as u16;
-    match mode {
-        Mode::Skipping(f) => CReader {
-            framing: framing_number(f),
-            mode: 0,
-            digit: 0,
-            held: held,
-            bytes: bytes,
-        },
-        Mode::Open(f) => CReader {
-            framing: framing_number(f),
-            mode: 1,
-            digit: 0,
-            held: held,
-            bytes: bytes,
-        },
-        Mode::Escape => CReader {
-            framing: 0,
-            mode: 2,
-            digit: 0,
-            held: held,
-            bytes: bytes,
-        },
-        Mode::Digit(d) => CReader {
-            framing: 1,
-            mode: 3,
-            digit: d,
-            held: held,
-            bytes: bytes,
-        },
+    CReader {
+        framing: framing_of(mode),
+        mode: mode_number(mode),
+        digit: digit_number(mode),
+        held: reader.held as u16,
+        bytes: bytes,
     }
 }
 
@@ -207,15 +244,11 @@ fn c_group(group: Group) -> CGroup
 
 // A message in its array, zero beyond its length.
 fn in_array(message: &[u8]) -> [u8; LONGEST]
-    requires { ⌜ length (now message) ≤ 18 ⌝ }
+    requires { ⌜ length (now message) ≤ longest ⌝ }
     ensures { λ r. ⌜ r ≡ padded (now (message .entry)) ⌝ }
 {
     let mut array = [0u8; LONGEST];
-    let mut i = 0;
-    while i < message.len() {
-        array[i] = message[i];
-        i += 1;
-    }
+    bytes::copy(message, &mut array);
     array
 }
 
@@ -296,24 +329,13 @@ fn with_reply(reading: CReading, reply: u8) -> CHearing
 
 // A good message goes into the table.
 fn store(table: &mut [u8], reading: CReading)
-    requires { ⌜ reading .length ≤ 18 ⌝ }
+    requires { ⌜ reading .length ≤ longest ⌝ }
     ensures { λ _. ⌜ now (table .exit) ≡ cond (eqb (reading .verdict) 0) (appliedTo (now (table .entry)) (take (reading .length) (reading .message))) (now (table .entry)) ⌝ }
 {
     let message = reading.message;
     let n = reading.length as usize;
     if reading.verdict == 0 {
         table::apply(table, &message[..n]);
-    }
-}
-
-fn reply_number(reply: Reply) -> u8
-    ensures { λ r. ⌜ r ≡ replyNumber reply ⌝ }
-{
-    match reply {
-        Reply::Nothing => 0,
-        Reply::Acknowledge => 0x1D,
-        Reply::NegativeAcknowledge => 0x1E,
-        Reply::Rejected => 0x1F,
     }
 }
 
@@ -375,12 +397,7 @@ pub extern "C" fn nx584_step(reader: CReader, byte: u8) -> CReading
 
 // The frame of a message, into the part of `out` that starts at `place`.
 #[no_mangle]
-pub extern "C" fn nx584_write(
-    message: &[u8],
-    framing: u8,
-    out: &mut [u8],
-    place: usize,
-) -> CWritten
+pub extern "C" fn nx584_write(message: &[u8], framing: u8, out: &mut [u8], place: usize) -> CWritten
     ensures { λ r. ⌜ CWrote (now (message .entry)) framing (now (out .entry)) place r (now (out .exit)) ⌝ }
 {
     let written = writer::write(message, framing_for(framing), out, place);
@@ -395,7 +412,7 @@ pub extern "C" fn nx584_write(
 pub extern "C" fn nx584_reply(verdict: u8, type_byte: u8) -> u8
     ensures { λ r. ⌜ r ≡ replyOf verdict «type_byte» ⌝ }
 {
-    reply_number(replies::reply(verdict, type_byte))
+    standard::reply_number(replies::reply(verdict, type_byte))
 }
 
 // A message into a table.
@@ -432,4 +449,68 @@ pub extern "C" fn nx584_hear(reader: CReader, table: &mut [u8], bytes: &[u8]) ->
     let reading = nx584_read(reader, bytes);
     store(table, reading);
     with_reply(reading, nx584_reply(reading.verdict, reading.type_byte))
+}
+
+// What a table says of a zone.
+#[no_mangle]
+pub extern "C" fn nx584_zone(table: &[u8], zone: u8) -> CZone
+    ensures { λ r. ⌜ r ≡ cZone (now (table .entry)) zone ⌝ }
+{
+    let mark = table::zone_mark(table, zone);
+    let flags = table::zone_short(table, zone);
+    let mut number = 0;
+    let part = table::zone_part(table, zone, &mut number);
+    let mut bytes = [0u8; 6];
+    bytes::copy(part, &mut bytes);
+    CZone {
+        number: mark.number,
+        mark: mark.value,
+        flags: flags.value,
+        bytes: bytes,
+    }
+}
+
+// What a table says of a partition.
+#[no_mangle]
+pub extern "C" fn nx584_partition(table: &[u8], partition: u8) -> CPartition
+    ensures { λ r. ⌜ r ≡ cPartition (now (table .entry)) partition ⌝ }
+{
+    let mut number = 0;
+    let part = table::partition_part(table, partition, &mut number);
+    let mut record = [0u8; 9];
+    bytes::copy(part, &mut record);
+    let mut bytes = [0u8; 7];
+    bytes::copy(&record[1..8], &mut bytes);
+    CPartition {
+        number: number,
+        mark: record[0],
+        flags: record[8],
+        bytes: bytes,
+    }
+}
+
+// What a table says of the system.
+#[no_mangle]
+pub extern "C" fn nx584_system(table: &[u8]) -> CSystem
+    ensures { λ r. ⌜ r ≡ cSystem (now (table .entry)) ⌝ }
+{
+    let mut number = 0;
+    let part = table::system_part(table, &mut number);
+    let mut record = [0u8; 12];
+    bytes::copy(part, &mut record);
+    let mut bytes = [0u8; 11];
+    bytes::copy(&record[1..], &mut bytes);
+    CSystem {
+        number: number,
+        mark: record[0],
+        bytes: bytes,
+    }
+}
+
+// NX584_VERSION of the header that this library was made with.
+#[no_mangle]
+pub extern "C" fn nx584_version() -> u32
+    ensures { λ r. ⌜ r ≡ 1 ⌝ }
+{
+    1
 }
