@@ -27,6 +27,11 @@ ALWAYS uint32_t load_half(const uint8_t *p)
     return word;
 }
 
+typedef uint8_t bytes16 __attribute__((vector_size(16)));
+typedef uint8_t bytes8 __attribute__((vector_size(8)));
+typedef uint16_t pairs __attribute__((vector_size(16)));
+typedef uint64_t two __attribute__((vector_size(16)));
+
 /* Ones in the first n of 24 or 48 bytes. */
 static const uint8_t ones[2 * CHARACTERS] = {
 #define EIGHT 255, 255, 255, 255, 255, 255, 255, 255
@@ -106,10 +111,6 @@ ALWAYS sums sums_of(words f, uint32_t n)
 
 /* ---- digits, sixteen at a time */
 
-typedef uint8_t bytes16 __attribute__((vector_size(16)));
-typedef uint8_t bytes8 __attribute__((vector_size(8)));
-typedef uint16_t pairs __attribute__((vector_size(16)));
-
 ALWAYS bytes16 load_vector(const uint8_t *p)
 {
     bytes16 v;
@@ -148,10 +149,25 @@ typedef struct {
     words body;
 } scanned;
 
-/* The reader that has had a verdict: whatever else stands in it, it holds nothing. */
+/* The words of a reader, by loads that no two stores of a caller's copy fall into. */
+ALWAYS void load_reader(uint64_t *x, const nx584_reader *r)
+{
+    const uint8_t *p = (const uint8_t *)r;
+    bytes16 v;
+    two low;
+    memcpy(&v, p, 16);
+    memcpy(&low, &v, 16);
+    x[0] = low[0];
+    x[1] = low[1];
+    x[2] = load(p + 16);
+    x[3] = load_half(p + 24);
+}
+
+/* The reader that has had a verdict holds nothing. */
 ALWAYS void decided(scanned *s, unsigned framing, size_t used, uint8_t verdict)
 {
     s->reader[0] = framing | (verdict == 1 ? IN_FRAME << 8 : SKIPPING);
+    s->reader[1] = s->reader[2] = s->reader[3] = 0;
     s->used = used;
     s->verdict = verdict;
 }
@@ -171,13 +187,20 @@ ALWAYS void judge(scanned *s, unsigned framing, size_t used, const uint8_t *fram
     decided(s, framing, used, verdict);
 }
 
-/* A frame whose first byte is at i, if it is all there and none of it is escaped. */
+/* A frame whose first byte is at i, if that byte decides or it is all there and none of it is escaped. */
 ALWAYS int whole_binary(scanned *s, const uint8_t *b, size_t n, size_t i)
 {
     uint8_t near_end[WORDS];
     size_t left = n - i, length;
     const uint8_t *frame = b + i;
-    if (left < 4 || (length = frame[0]) - 1 >= NX584_LONGEST || left < length + 3)
+    if (left == 0 || frame[0] == ESCAPE)
+        return 0;
+    length = frame[0];
+    if (length - 1 >= NX584_LONGEST) {
+        decided(s, 0, i + 1, length == BINARY_START ? 1 : 4);
+        return 1;
+    }
+    if (left < length + 3)
         return 0;
     if (left < WORDS) {
         memset(near_end, 0, WORDS);
@@ -198,7 +221,11 @@ ALWAYS int whole_ascii(scanned *s, const uint8_t *b, size_t n, size_t i)
     const uint8_t *p = b + i;
     bytes16 bad = {0};
     uint64_t any[2];
-    if (left < 9 || !digits[p[0]] || !digits[p[1]])
+    if (left != 0 && !digits[p[0]]) {
+        decided(s, 1, i + 1, p[0] == ASCII_START ? 1 : 2);
+        return 1;
+    }
+    if (left < 9 || !digits[p[1]])
         return 0;
     length = (size_t)(digits[p[0]] & 15) << 4 | (digits[p[1]] & 15);
     characters = 2 * (length + 3);
@@ -222,7 +249,7 @@ ALWAYS int whole_ascii(scanned *s, const uint8_t *b, size_t n, size_t i)
 /* The reader as the byte loops leave it. */
 ALWAYS void keep(scanned *s, const nx584_reader *r, unsigned framing, unsigned mode, unsigned digit, unsigned held)
 {
-    memcpy(s->reader, r, sizeof *r);
+    load_reader(s->reader, r);
     s->reader[0] = (s->reader[0] & ~(uint64_t)0xFFFFFFFFFFFF) | framing | mode << 8 | digit << 16 | (uint64_t)held << 32;
 }
 
@@ -304,121 +331,144 @@ static void bytes_ascii(scanned *s, nx584_reader *r, const uint8_t *b, size_t n,
     s->used = n;
 }
 
-/* A single byte that a sound reader in a frame holds: put into the reader's words where they are. */
-ALWAYS void hold(scanned *s, const nx584_reader *r, unsigned framing, uint8_t c)
+/* Any reader and any bytes; a skipping reader meets no start before i. */
+static __attribute__((noinline)) void scan_bytes(scanned *s, nx584_reader *r, const uint8_t *b, size_t n, size_t i)
 {
-    unsigned held = r->held, at = (unsigned)offsetof(nx584_reader, bytes) + held;
-    if (held == 0 && c - 1u >= NX584_LONGEST) {
-        decided(s, framing, 1, 4);
-        return;
-    }
-    memcpy(s->reader, r, sizeof *r);
-    for (unsigned k = 0; k < 4; k++) {
-        uint64_t hole = at / 8 == k ? (uint64_t)0xFF << at % 8 * 8 : 0;
-        s->reader[k] = (s->reader[k] & ~hole) | (EACH((uint64_t)c) & hole);
-    }
-    if (framing == 0 && held == r->bytes[0] + 2u && held != 0) {
-        uint8_t frame[WORDS];
-        uint64_t *x = s->reader, f[3] = {x[0] >> 48 | x[1] << 16, x[1] >> 48 | x[2] << 16, x[2] >> 48 | x[3] << 16};
-        memcpy(frame, f, WORDS);
-        judge(s, 0, 1, frame, load_words(frame, frame[0] + 1u));
-        return;
-    }
-    s->reader[0] = (s->reader[0] & ~(uint64_t)0xFFFFFFFFFFFF) | framing | IN_FRAME << 8 | (uint64_t)(held + 1) << 32;
-    s->used = 1;
-}
-
-ALWAYS void one_byte(scanned *s, nx584_reader *r, uint8_t c)
-{
-    s->used = 1;
-    if (r->framing == 0) {
-        if (c == BINARY_START)
-            decided(s, 0, 1, 1);
-        else if (r->mode == ESCAPED)
-            hold(s, r, 0, c ^ 0x20);
-        else if (c == ESCAPE)
-            keep(s, r, 0, ESCAPED, 0, r->held);
-        else
-            hold(s, r, 0, c);
-        return;
-    }
-    if (c == ASCII_START)
-        decided(s, 1, 1, 1);
-    else if (r->held != 0 && r->held == r->bytes[0] + 3)
-        c == ASCII_STOP ? judge_held(s, r, 1, 1) : decided(s, 1, 1, 3);
-    else if (digits[c] == 0)
-        decided(s, 1, 1, 2);
-    else if (r->mode == DIGIT_PENDING)
-        hold(s, r, 1, (uint8_t)(r->digit << 4 | (digits[c] & 15)));
-    else
-        keep(s, r, 1, DIGIT_PENDING, digits[c] & 15, r->held);
-}
-
-ALWAYS void scan(scanned *s, nx584_reader *r, const uint8_t *b, size_t n)
-{
-    size_t i = 0;
     memset(s, 0, sizeof *s);
-    memcpy(s->reader, r, sizeof *r);
     s->verdict = NX584_NONE;
     if (!is_sound(r)) {
+        load_reader(s->reader, r);
         s->verdict = 12;
         return;
     }
     settle(r);
     if (r->mode == SKIPPING) {
-        int start = r->framing ? ASCII_START : BINARY_START;
-        if (n == 0 || b[0] != start) {
-            const uint8_t *at = n > 1 ? memchr(b + 1, start, n - 1) : NULL;
-            if (!at) {
-                keep(s, r, r->framing, SKIPPING, 0, r->held);
-                s->used = n;
-                return;
-            }
-            i = (size_t)(at - b);
+        const uint8_t *at = i < n ? memchr(b + i, r->framing ? ASCII_START : BINARY_START, n - i) : NULL;
+        if (!at) {
+            keep(s, r, r->framing, SKIPPING, 0, r->held);
+            s->used = n;
+            return;
         }
-        i++;
+        i = (size_t)(at - b) + 1;
         r->mode = IN_FRAME;
         r->held = 0;
-    } else if (n == 1) {
-        one_byte(s, r, b[0]);
-        return;
     }
-    if (r->framing) {
-        if (r->mode == IN_FRAME && r->held == 0 && whole_ascii(s, b, n, i))
-            return;
+    if (r->framing)
         bytes_ascii(s, r, b, n, i);
-    } else {
-        if (r->mode == IN_FRAME && r->held == 0 && whole_binary(s, b, n, i))
-            return;
+    else
         bytes_binary(s, r, b, n, i);
+}
+
+/* A reader that holds nothing meets a whole frame at once; 0: it does not, and no start before *from. */
+ALWAYS int scan_whole(scanned *s, const nx584_reader *r, const uint8_t *b, size_t n, size_t *from)
+{
+    unsigned mode = r->mode, ascii = r->framing;
+    *from = 0;
+    if (n < 2 || r->held != 0 || mode > IN_FRAME || ascii > 1)
+        return 0;
+    if (mode == SKIPPING && b[0] != (ascii ? ASCII_START : BINARY_START)) {
+        const uint8_t *at = memchr(b + 1, ascii ? ASCII_START : BINARY_START, n - 1);
+        *from = at ? (size_t)(at - b) : n;
+        if (!at)
+            return 0;
+    }
+    memset(s, 0, sizeof *s);
+    size_t i = *from + (mode == SKIPPING);
+    return ascii ? whole_ascii(s, b, n, i) : whole_binary(s, b, n, i);
+}
+
+/* Sixteen bytes of an answer in one store, as a caller that copies it loads them. */
+ALWAYS void put_two(uint8_t *to, uint64_t low, uint64_t high)
+{
+    two both = {low, high};
+    memcpy(to, &both, 16);
+}
+
+/* An answer: the reader, the used bytes, some bits of numbers, the frame's length byte and its message. */
+ALWAYS void put_answer(uint8_t *to, const scanned *s, uint64_t numbers, unsigned bits)
+{
+    const uint64_t *f = s->body.w;
+    put_two(to, s->reader[0], s->reader[1]);
+    put_two(to + 16, s->reader[2], s->reader[3]);
+    put_two(to + 32, s->used, numbers | f[0] << bits);
+    put_two(to + 48, f[0] >> (64 - bits) | f[1] << bits, f[1] >> (64 - bits) | f[2] << bits);
+}
+
+ALWAYS void put_reading(nx584_reading *a, const scanned *s)
+{
+    _Static_assert(sizeof *a == 64 && offsetof(nx584_reading, length) == 42, "an answer's words");
+    put_answer((uint8_t *)a, s, s->verdict | s->type << 8, 16);
+}
+
+static __attribute__((noinline)) void read_words(nx584_reading *a, nx584_reader *r, const uint8_t *bytes, size_t n)
+{
+    scanned whole, other;
+    size_t from;
+    if (scan_whole(&whole, r, bytes, n, &from)) {
+        put_reading(a, &whole);
+    } else {
+        scan_bytes(&other, r, bytes, n, from);
+        put_reading(a, &other);
     }
 }
 
-/* The last 24 bytes of an answer: some numbers, then the frame's length byte and its message. */
-ALWAYS void put_tail(uint64_t *to, uint64_t numbers, unsigned bits, words f)
+/* A single byte in a frame, at which no verdict falls; 0: it is another. */
+ALWAYS int read_one(nx584_reading *a, const nx584_reader *from, unsigned c)
 {
-    to[0] = numbers | f.w[0] << bits;
-    to[1] = f.w[0] >> (64 - bits) | f.w[1] << bits;
-    to[2] = f.w[1] >> (64 - bits) | f.w[2] << bits;
+    unsigned held = from->held, mode = from->mode, end = from->bytes[0] + 3u, digit = 0;
+    uint64_t x[4], at = offsetof(nx584_reader, bytes) + held;
+    uint8_t *to = (uint8_t *)a;
+    if (mode == SKIPPING || held == 0 || !is_sound(from))
+        return 0;
+    if (from->framing) {
+        if (held == end || !digits[c])
+            return 0;
+        digit = digits[c] & 15;
+        if (mode == DIGIT_PENDING) {
+            c = (unsigned)from->digit << 4 | digit;
+            digit = 0;
+            mode = IN_FRAME;
+        } else {
+            mode = DIGIT_PENDING;
+        }
+    } else {
+        if (held + 1 == end || c == BINARY_START)
+            return 0;
+        if (mode == ESCAPED) {
+            c ^= 0x20;
+            mode = IN_FRAME;
+        } else {
+            mode = c == ESCAPE ? ESCAPED : IN_FRAME;
+        }
+    }
+    load_reader(x, from);
+    for (unsigned k = 0; k < 4; k++) {
+        uint64_t hole = at / 8 == k ? (uint64_t)0xFF << at % 8 * 8 : 0;
+        x[k] = (x[k] & ~hole) | (EACH((uint64_t)c) & hole);
+    }
+    held += mode == IN_FRAME;
+    x[0] = (x[0] & ~(uint64_t)0xFFFFFFFFFFFF) | (from->framing != 0) | mode << 8 | digit << 16 | (uint64_t)held << 32;
+    put_two(to, x[0], x[1]);
+    put_two(to + 16, x[2], x[3]);
+    put_two(to + 32, 1, NX584_NONE);
+    put_two(to + 48, 0, 0);
+    return 1;
 }
 
 nx584_reading nx584_read(nx584_reader reader, const uint8_t *bytes, size_t bytes_len)
 {
-    _Static_assert(sizeof(nx584_reading) == 64 && offsetof(nx584_reading, length) == 42, "an answer's words");
     nx584_reading a;
-    uint64_t answer[8];
-    scanned s;
-    scan(&s, &reader, bytes, bytes_len);
-    memcpy(answer, s.reader, 32);
-    answer[4] = s.used;
-    put_tail(answer + 5, s.verdict | s.type << 8, 16, s.body);
-    memcpy(&a, answer, sizeof a);
+    if (bytes_len != 1 || !read_one(&a, &reader, bytes[0]))
+        read_words(&a, &reader, bytes, bytes_len);
     return a;
 }
 
 nx584_reading nx584_step(nx584_reader reader, uint8_t byte)
 {
-    return nx584_read(reader, &byte, 1);
+    nx584_reading a;
+    if (!read_one(&a, &reader, byte))
+        read_words(&a, &reader, &byte, 1);
+    return a;
 }
 
 /* ---- writer */
@@ -622,54 +672,75 @@ uint8_t nx584_apply(uint8_t *table, size_t table_len, const uint8_t *message, si
 }
 
 /* Nothing heard is 0 / 0, a NaN. */
-ALWAYS void put_group(nx584_group *g, uint64_t heard, uint64_t faulted)
+ALWAYS void put_group(nx584_group *g, uint32_t heard, uint32_t faulted)
 {
     uint64_t counts = heard | faulted << 16 | (uint64_t)(heard != 0) << 32;
     memcpy(g, &counts, 8);
     g->share = (double)(int32_t)faulted / (double)(int32_t)heard;
 }
 
-/* Heard in the low half of a total, faulted in the high one. */
+/* Bit 0 of each byte of sixteen zones, of two in a vector: those of eight pairs come to stand in one. */
+ALWAYS two gather(const uint8_t *zone)
+{
+    bytes16 bits = load_vector(zone);
+    for (int k = 1; k < 8; k++)
+        bits = (bits & (uint8_t)((1 << k) - 1)) | load_vector(zone + 2 * ZONE * k) << k;
+    return (two)bits;
+}
+
+/* The low half: how many of sixteen zones are heard; the high half: how many of those are faulted. */
+ALWAYS uint32_t count_group(const uint8_t *zone)
+{
+    two bits = gather(zone);
+    two both = (bits & 0xFF) | (bits & bits >> 56) << 16;
+    uint32_t four = (uint32_t)(both[0] | both[1] << 8);
+    four -= four >> 1 & 0x55555555;
+    four = (four & 0x33333333) + (four >> 2 & 0x33333333);
+    four = (four + (four >> 4)) & 0x0F0F0F0F;
+    return (four + (four >> 8)) & 0x00FF00FF;
+}
+
 nx584_overview nx584_view(const uint8_t *table, size_t table_len)
 {
     nx584_overview v;
-    uint64_t site = 0, counts[16] = {0};
-    int known = table_len == NX584_TABLE_BYTES;
-    for (int k = 0; known && k < 16; k++) {
-        uint64_t total = 0;
-        for (int z = 0; z < 16; z++) {
-            uint64_t zone = load(table + ZONE * (16 * k + z));
-            total += (zone & 1) | (zone & zone >> 56 & 1) << 32;
-        }
-        counts[k] = total;
-        site += total;
+    uint32_t site = 0;
+    v.number = table_len == NX584_TABLE_BYTES ? 0 : 11;
+    for (int k = 0; k < 16; k++) {
+        uint32_t counts = v.number ? 0 : count_group(table + 16 * ZONE * k);
+        put_group(&v.groups[k], counts & 0xFFFF, counts >> 16);
+        site += counts;
     }
-    v.number = known ? 0 : 11;
-    for (int k = 0; k < 16; k++)
-        put_group(&v.groups[k], counts[k] & 0xFFFF, counts[k] >> 32);
-    put_group(&v.site, site & 0xFFFF, site >> 32);
+    put_group(&v.site, site & 0xFFFF, site >> 16);
     return v;
+}
+
+ALWAYS void put_hearing(nx584_hearing *h, const scanned *s, uint8_t *table)
+{
+    _Static_assert(sizeof *h == 64 && offsetof(nx584_hearing, length) == 43, "an answer's words");
+    uint64_t reply = nx584_reply((uint8_t)s->verdict, (uint8_t)s->type);
+    if (s->verdict == 0) {
+        uint8_t frame[WORDS];
+        memcpy(frame, s->body.w, WORDS);
+        store(table, frame + 1);
+    }
+    put_answer((uint8_t *)h, s, s->verdict | s->type << 8 | reply << 16, 24);
 }
 
 nx584_hearing nx584_hear(nx584_reader reader, uint8_t *table, size_t table_len, const uint8_t *bytes,
                          size_t bytes_len)
 {
-    _Static_assert(sizeof(nx584_hearing) == 64 && offsetof(nx584_hearing, length) == 43, "an answer's words");
-    nx584_hearing h = {.reader = reader, .verdict = 11};
-    uint64_t answer[8];
-    scanned s;
-    if (table_len != NX584_TABLE_BYTES)
-        return h;
-    scan(&s, &reader, bytes, bytes_len);
-    if (s.verdict == 0) {
-        uint8_t frame[WORDS];
-        memcpy(frame, s.body.w, WORDS);
-        store(table, frame + 1);
+    nx584_hearing h;
+    scanned whole, other;
+    size_t from;
+    if (table_len != NX584_TABLE_BYTES) {
+        nx584_hearing refused = {.reader = reader, .verdict = 11};
+        return refused;
     }
-    memcpy(answer, s.reader, 32);
-    answer[4] = s.used;
-    uint64_t reply = nx584_reply((uint8_t)s.verdict, (uint8_t)s.type);
-    put_tail(answer + 5, s.verdict | s.type << 8 | reply << 16, 24, s.body);
-    memcpy(&h, answer, sizeof h);
+    if (scan_whole(&whole, &reader, bytes, bytes_len, &from)) {
+        put_hearing(&h, &whole, table);
+    } else {
+        scan_bytes(&other, &reader, bytes, bytes_len, from);
+        put_hearing(&h, &other, table);
+    }
     return h;
 }
