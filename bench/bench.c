@@ -77,7 +77,13 @@ static void starts(size_t units) { memset(capture, 0x7E, units); }
 static void mixed(size_t units) { made = make_messages(-1, units); }
 static void zone_status(size_t units) { made = make_messages(0, units); }
 static void zones_snapshot(size_t units) { made = make_messages(1, units); }
-static void nothing(size_t units) { (void)units; }
+
+/* A table as a gateway fills it: most zones heard, half of them faulted. */
+static void heard_zones(size_t units)
+{
+    zone_status(units);
+    loop_apply(table, &made);
+}
 
 static void noise(size_t units)
 {
@@ -124,7 +130,7 @@ static const struct line {
     {"write ASCII", "frame", mixed, write_ascii, MESSAGES},
     {"apply 04h", "message", zone_status, apply, MESSAGES},
     {"apply 05h", "message", zones_snapshot, apply, MESSAGES},
-    {"overview", "table", nothing, view, 1024},
+    {"overview", "table", heard_zones, view, 1024},
     {"hear a mixed capture", "byte", damaged_frames, hear, CAPTURE},
     {"read binary, 1 KiB", "byte", binary_frames, read_binary, 1 << 10},
     {"read binary, 64 KiB", "byte", binary_frames, read_binary, 1 << 16},
