@@ -8,7 +8,7 @@
 #include <string.h>
 #include <time.h>
 
-enum { RUNS = 9, CAPTURE = 1 << 16, LONG_CAPTURE = 1 << 24, MESSAGES = 4096 };
+enum { RUNS = 9, CAPTURE = 1 << 16, LONGEST_CAPTURE = 1 << 24, MESSAGES = 4096 };
 static const double LEAST_SECONDS = 0.01;
 
 /* ---- made inputs, the same for every library */
@@ -37,20 +37,22 @@ static size_t make_message(uint8_t *m, unsigned kind)
     return length;
 }
 
-static messages make_messages(int kind)
+/* So many messages, of one kind or, below 0, of any. */
+static messages make_messages(int kind, size_t count)
 {
-    uint8_t *bytes = malloc(19 * MESSAGES), *end = bytes;
-    for (size_t k = 0; k < MESSAGES; k++) {
+    static uint8_t bytes[19 * MESSAGES];
+    uint8_t *end = bytes;
+    for (size_t k = 0; k < count; k++) {
         size_t length = make_message(end + 1, kind < 0 ? any_byte() % 8 : (unsigned)kind);
         *end = (uint8_t)length;
         end += 1 + length;
     }
-    messages list = {bytes, MESSAGES};
+    messages list = {bytes, count};
     return list;
 }
 
 /* Frames one after the other; where damaged is not 0, every so many bytes one is another. */
-static void make_capture(uint8_t framing, uint8_t *bytes, size_t length, size_t damaged)
+static void make_frames(uint8_t framing, uint8_t *bytes, size_t length, size_t damaged)
 {
     uint8_t m[18];
     size_t at = 0;
@@ -63,26 +65,77 @@ static void make_capture(uint8_t framing, uint8_t *bytes, size_t length, size_t 
         bytes[k] = any_byte();
 }
 
-static void make_noise(uint8_t *bytes, size_t length)
-{
-    for (size_t k = 0; k < length; k++)
-        bytes[k] = any_byte();
-}
-
 /* ---- the measurements */
 
-static uint8_t *capture, *long_capture, table[NX584_TABLE_BYTES];
-static messages mixed, zone_status, zones_snapshot;
+static uint8_t *capture, table[NX584_TABLE_BYTES];
+static messages made;
 
-static uint64_t read_binary(size_t units) { return loop_read(0, capture, units); }
-static uint64_t read_ascii(size_t units) { return loop_read(1, capture, units); }
-static uint64_t read_long(size_t units) { return loop_read(0, long_capture, units); }
-static uint64_t write_binary(size_t units) { return (void)units, loop_write(0, &mixed); }
-static uint64_t write_ascii(size_t units) { return (void)units, loop_write(1, &mixed); }
-static uint64_t apply_04(size_t units) { return (void)units, loop_apply(table, &zone_status); }
-static uint64_t apply_05(size_t units) { return (void)units, loop_apply(table, &zones_snapshot); }
+static void binary_frames(size_t units) { make_frames(0, capture, units, 0); }
+static void ascii_frames(size_t units) { make_frames(1, capture, units, 0); }
+static void damaged_frames(size_t units) { make_frames(0, capture, units, 100); }
+static void starts(size_t units) { memset(capture, 0x7E, units); }
+static void mixed(size_t units) { made = make_messages(-1, units); }
+static void zone_status(size_t units) { made = make_messages(0, units); }
+static void zones_snapshot(size_t units) { made = make_messages(1, units); }
+
+/* A table as a gateway fills it: most zones heard, half of them faulted. */
+static void heard_zones(size_t units)
+{
+    zone_status(units);
+    loop_apply(table, &made);
+}
+
+static void noise(size_t units)
+{
+    for (size_t k = 0; k < units; k++)
+        capture[k] = any_byte();
+}
+
+static uint64_t read_binary(size_t units) { return loop_read(0, capture, units, units); }
+static uint64_t read_ascii(size_t units) { return loop_read(1, capture, units, units); }
+static uint64_t read_binary_1(size_t units) { return loop_read(0, capture, units, 1); }
+static uint64_t read_binary_16(size_t units) { return loop_read(0, capture, units, 16); }
+static uint64_t read_binary_64(size_t units) { return loop_read(0, capture, units, 64); }
+static uint64_t read_ascii_1(size_t units) { return loop_read(1, capture, units, 1); }
+static uint64_t read_ascii_16(size_t units) { return loop_read(1, capture, units, 16); }
+static uint64_t read_ascii_64(size_t units) { return loop_read(1, capture, units, 64); }
+static uint64_t step_binary(size_t units) { return loop_step(0, capture, units); }
+static uint64_t step_ascii(size_t units) { return loop_step(1, capture, units); }
+static uint64_t write_binary(size_t units) { return (void)units, loop_write(0, &made); }
+static uint64_t write_ascii(size_t units) { return (void)units, loop_write(1, &made); }
+static uint64_t apply(size_t units) { return (void)units, loop_apply(table, &made); }
 static uint64_t view(size_t units) { return loop_view(table, units); }
 static uint64_t hear(size_t units) { return loop_hear(0, table, capture, units); }
+
+static const struct line {
+    const char *what, *unit;
+    void (*make)(size_t units);
+    uint64_t (*loop)(size_t units);
+    size_t units;
+} lines[] = {
+    {"read binary frames", "byte", binary_frames, read_binary, CAPTURE},
+    {"read binary, 64 bytes a call", "byte", binary_frames, read_binary_64, CAPTURE},
+    {"read binary, 16 bytes a call", "byte", binary_frames, read_binary_16, CAPTURE},
+    {"read binary, 1 byte a call", "byte", binary_frames, read_binary_1, CAPTURE},
+    {"step, binary", "byte", binary_frames, step_binary, CAPTURE},
+    {"read ASCII frames", "byte", ascii_frames, read_ascii, CAPTURE},
+    {"read ASCII, 64 bytes a call", "byte", ascii_frames, read_ascii_64, CAPTURE},
+    {"read ASCII, 16 bytes a call", "byte", ascii_frames, read_ascii_16, CAPTURE},
+    {"read ASCII, 1 byte a call", "byte", ascii_frames, read_ascii_1, CAPTURE},
+    {"step, ASCII", "byte", ascii_frames, step_ascii, CAPTURE},
+    {"read noise, binary", "byte", noise, read_binary, CAPTURE},
+    {"read noise, ASCII", "byte", noise, read_ascii, CAPTURE},
+    {"read start bytes only", "byte", starts, read_binary, CAPTURE},
+    {"write binary", "frame", mixed, write_binary, MESSAGES},
+    {"write ASCII", "frame", mixed, write_ascii, MESSAGES},
+    {"apply 04h", "message", zone_status, apply, MESSAGES},
+    {"apply 05h", "message", zones_snapshot, apply, MESSAGES},
+    {"overview", "table", heard_zones, view, 1024},
+    {"hear a mixed capture", "byte", damaged_frames, hear, CAPTURE},
+    {"read binary, 1 KiB", "byte", binary_frames, read_binary, 1 << 10},
+    {"read binary, 64 KiB", "byte", binary_frames, read_binary, 1 << 16},
+    {"read binary, 16 MiB", "byte", binary_frames, read_binary, LONGEST_CAPTURE},
+};
 
 /* Of the processor: what else the machine does is left out. */
 static double seconds(void)
@@ -99,60 +152,43 @@ static int ascending(const void *a, const void *b)
 }
 
 /* The median of several runs, each of as many rounds as take some time. */
-static void measure(const char *what, const char *unit, uint64_t (*loop)(size_t), size_t units)
+static void measure(const struct line *line)
 {
     double runs[RUNS];
+    state = 1;
     memset(table, 0, sizeof table);
-    uint64_t sum = loop(units);
+    line->make(line->units);
+    uint64_t sum = line->loop(line->units);
     for (int k = 0; k < RUNS; k++) {
         double began = seconds(), took;
         size_t rounds = 0;
         do {
-            loop(units);
+            line->loop(line->units);
             rounds++;
             took = seconds() - began;
         } while (took < LEAST_SECONDS);
-        runs[k] = took / (double)rounds / (double)units * 1e9;
+        runs[k] = took / (double)rounds / (double)line->units * 1e9;
     }
     qsort(runs, RUNS, sizeof *runs, ascending);
-    printf("%s, ns a %s\t%.4f\t%016llx\n", what, unit, runs[RUNS / 2], (unsigned long long)sum);
+    printf("%s, ns a %s\t%.4f\t%016llx\n", line->what, line->unit, runs[RUNS / 2], (unsigned long long)sum);
 }
 
-/* With the word `capture`: the largest capture that nxread reads, every 100th byte of it another. */
+/* bench: all lines. bench lines WORD: those whose name has the word in it. bench capture: no line, but the
+ * largest capture that nxread reads, every 100th byte of it another. */
 int main(int count, char **words)
 {
-    capture = malloc(CAPTURE);
-    long_capture = malloc(LONG_CAPTURE);
-    if (!capture || !long_capture)
+    const char *only = count > 2 && strcmp(words[1], "lines") == 0 ? words[2] : "";
+    capture = malloc(LONGEST_CAPTURE);
+    if (!capture)
         return 1;
     if (count > 1 && strcmp(words[1], "capture") == 0) {
-        make_capture(0, capture, CAPTURE, 100);
+        damaged_frames(CAPTURE);
         return fwrite(capture, 1, CAPTURE, stdout) != CAPTURE;
     }
-    mixed = make_messages(-1);
-    zone_status = make_messages(0);
-    zones_snapshot = make_messages(1);
-
-    make_capture(0, capture, CAPTURE, 0);
-    measure("read binary frames", "byte", read_binary, CAPTURE);
-    make_capture(1, capture, CAPTURE, 0);
-    measure("read ASCII frames", "byte", read_ascii, CAPTURE);
-    make_noise(capture, CAPTURE);
-    measure("read noise, binary", "byte", read_binary, CAPTURE);
-    measure("read noise, ASCII", "byte", read_ascii, CAPTURE);
-    memset(capture, 0x7E, CAPTURE);
-    measure("read start bytes only", "byte", read_binary, CAPTURE);
-    measure("write binary", "frame", write_binary, MESSAGES);
-    measure("write ASCII", "frame", write_ascii, MESSAGES);
-    measure("apply 04h", "message", apply_04, MESSAGES);
-    measure("apply 05h", "message", apply_05, MESSAGES);
-    measure("overview", "table", view, 1024);
-    make_capture(0, capture, CAPTURE, 100);
-    measure("hear a mixed capture", "byte", hear, CAPTURE);
-    make_capture(0, long_capture, LONG_CAPTURE, 0);
-    measure("read binary, 1 KiB", "byte", read_long, 1 << 10);
-    measure("read binary, 64 KiB", "byte", read_long, 1 << 16);
-    measure("read binary, 16 MiB", "byte", read_long, 1 << 24);
-    printf("bytes of a reader\t%zu\t0\n", reader_bytes());
+    for (size_t k = 0; k < sizeof lines / sizeof *lines; k++)
+        if (strstr(lines[k].what, only))
+            measure(&lines[k]);
+    if (strstr("bytes of a reader", only))
+        printf("bytes of a reader\t%zu\t0\n", reader_bytes());
     return 0;
 }

@@ -7,16 +7,36 @@ static uint64_t mix(uint64_t sum, uint64_t answer)
     return (sum ^ answer) * 0x9E3779B97F4A7C15u;
 }
 
-uint64_t loop_read(uint8_t framing, const uint8_t *bytes, size_t length)
+static uint64_t mix_reading(uint64_t sum, const nx584_reading *a)
+{
+    return mix(sum, a->used << 24 | (uint64_t)a->verdict << 16 | a->length << 8 | a->message[0]);
+}
+
+uint64_t loop_read(uint8_t framing, const uint8_t *bytes, size_t length, size_t piece)
+{
+    nx584_reading a;
+    uint64_t sum = 0;
+    const uint8_t *end = bytes + length;
+    a.reader = nx584_fresh(framing);
+    while (bytes < end) {
+        const uint8_t *stop = (size_t)(end - bytes) < piece ? end : bytes + piece;
+        while (bytes < stop) {
+            a = nx584_read(a.reader, bytes, (size_t)(stop - bytes));
+            sum = mix_reading(sum, &a);
+            bytes += a.used;
+        }
+    }
+    return sum;
+}
+
+uint64_t loop_step(uint8_t framing, const uint8_t *bytes, size_t length)
 {
     nx584_reading a;
     uint64_t sum = 0;
     a.reader = nx584_fresh(framing);
-    while (length > 0) {
-        a = nx584_read(a.reader, bytes, length);
-        sum = mix(sum, a.used << 24 | (uint64_t)a.verdict << 16 | a.length << 8 | a.message[0]);
-        bytes += a.used;
-        length -= a.used;
+    for (size_t k = 0; k < length; k++) {
+        a = nx584_step(a.reader, bytes[k]);
+        sum = mix_reading(sum, &a);
     }
     return sum;
 }

@@ -1,9 +1,11 @@
-"""bench/whole.py ROUNDS INPUT PROGRAM...: runs whole programs in turn on one input and prints the processor time
-of a run side by side, with the ratio of each to the first. The status is 1 where two of them write different bytes."""
+"""bench/whole.py ROUNDS WHAT INPUT PROGRAM...: runs whole programs in turn on one input and prints the processor time
+of a run as a line of table.py. The status is 1 where two of them write different bytes."""
 import resource
 import statistics
 import subprocess
 import sys
+
+import table
 
 RUNS = 50
 
@@ -28,7 +30,7 @@ def written(program, capture):
         return subprocess.run([program], stdin=given, stdout=subprocess.PIPE, check=True).stdout
 
 
-def main(rounds, capture, programs):
+def main(rounds, what, capture, programs):
     if len({written(program, capture) for program in programs}) > 1:
         print('DIFFERENT REPORTS:', capture)
         return 1
@@ -36,10 +38,9 @@ def main(rounds, capture, programs):
     for _ in range(rounds):
         for program in programs:
             figures[program].append(milliseconds(program, capture))
-    medians = [statistics.median(figures[program]) for program in programs]
-    row = '%-38s' + ' %9.2f' * len(medians) + '  ' + ' %12.2f' * (len(medians) - 1)
-    print(row % ('nxread on the largest capture, ms', *medians, *(m / medians[0] for m in medians[1:])))
+    table.print_line(what + ', ms', {program: statistics.median(figures[program]) for program in programs})
     return 0
 
 
-sys.exit(main(int(sys.argv[1]), sys.argv[2], sys.argv[3:]))
+if __name__ == '__main__':
+    sys.exit(main(int(sys.argv[1]), sys.argv[2], sys.argv[3], sys.argv[4:]))

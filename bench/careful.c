@@ -1,0 +1,331 @@
+/* The careful plain C: nx584.h as one writes it for a small unit from documents 003 and 01, with their
+ * eight-bit sums and one step of one state machine for every byte. tests/run holds it to the second
+ * program as it holds the library. */
+#include "plain.h"
+
+/* Document 003, "Fletcher Checksum using 8-bit math", line by line. */
+static void fletcher(const uint8_t *string, size_t length, uint8_t *first, uint8_t *second)
+{
+    uint8_t sum1 = 0, sum2 = 0;
+    for (size_t i = 0; i < length; i++) {
+        if (255 - sum1 < string[i])
+            sum1++;
+        sum1 += string[i];
+        if (sum1 == 255)
+            sum1 = 0;
+        if (255 - sum2 < sum1)
+            sum2++;
+        sum2 += sum1;
+        if (sum2 == 255)
+            sum2 = 0;
+    }
+    *first = sum1;
+    *second = sum2;
+}
+
+static int values_are_good(const uint8_t *m)
+{
+    switch (m[0] & 0x3F) {
+    case 0x05: case 0x25: return m[1] <= 240;
+    case 0x06: case 0x26: return m[1] <= 7;
+    case 0x09: case 0x29: return x10_is_good(m);
+    case 0x0B: return m[2] <= 0x15;
+    case 0x10: return (m[2] & 0xA0) == 0;
+    case 0x2B: return m[2] == 0;
+    case 0x30: return (m[2] & 0xB0) == 0;
+    case 0x31: return (m[2] & 0xA0) == 0x20;
+    case 0x3B: return clock_is_good(m);
+    case 0x3C: return m[4] <= 7;
+    case 0x3D: return m[1] <= 7;
+    case 0x3E: return m[1] <= 0x0F;
+    default: return 1;
+    }
+}
+
+/* ---- reader */
+
+static void decided(nx584_reading *a, uint8_t verdict)
+{
+    a->verdict = verdict;
+    a->reader.mode = SKIPPING;
+    a->reader.digit = 0;
+    a->reader.held = 0;
+}
+
+/* The verdict of a whole frame: its length byte, message and sums are the reader's bytes. */
+static void judge(nx584_reading *a)
+{
+    const uint8_t *frame = a->reader.bytes, *message = frame + 1;
+    size_t n = frame[0];
+    uint8_t sum1, sum2, verdict = 5;
+    fletcher(frame, n + 1, &sum1, &sum2);
+    if (frame[n + 1] == sum1 && frame[n + 2] == sum2) {
+        verdict = verdict_of(message, n);
+        a->type = message[0];
+    }
+    if (verdict == 0) {
+        a->length = (uint8_t)n;
+        memcpy(a->message, message, n);
+    }
+    decided(a, verdict);
+}
+
+static void hold(nx584_reading *a, uint8_t byte)
+{
+    nx584_reader *r = &a->reader;
+    r->bytes[r->held++] = byte;
+    if (r->held == 1 && (byte < 1 || byte > NX584_LONGEST))
+        decided(a, 4);
+}
+
+static void step_binary(nx584_reading *a, uint8_t byte)
+{
+    nx584_reader *r = &a->reader;
+    if (r->mode == ESCAPED) {
+        byte ^= 0x20;
+        r->mode = IN_FRAME;
+    } else if (byte == ESCAPE) {
+        r->mode = ESCAPED;
+        return;
+    }
+    hold(a, byte);
+    if (r->held != 0 && r->held == r->bytes[0] + 3)
+        judge(a);
+}
+
+static void step_ascii(nx584_reading *a, uint8_t byte)
+{
+    nx584_reader *r = &a->reader;
+    if (r->held != 0 && r->held == r->bytes[0] + 3) {
+        if (byte == ASCII_STOP)
+            judge(a);
+        else
+            decided(a, 3);
+    } else if (digits[byte] == 0) {
+        decided(a, 2);
+    } else if (r->mode == DIGIT_PENDING) {
+        byte = (uint8_t)(r->digit << 4 | (digits[byte] - 16));
+        r->mode = IN_FRAME;
+        r->digit = 0;
+        hold(a, byte);
+    } else {
+        r->mode = DIGIT_PENDING;
+        r->digit = digits[byte] - 16;
+    }
+}
+
+static void step(nx584_reading *a, uint8_t byte)
+{
+    nx584_reader *r = &a->reader;
+    if (byte == (r->framing ? ASCII_START : BINARY_START)) {
+        if (r->mode != SKIPPING)
+            a->verdict = 1;
+        r->mode = IN_FRAME;
+        r->digit = 0;
+        r->held = 0;
+    } else if (r->mode == SKIPPING) {
+        return;
+    } else if (r->framing) {
+        step_ascii(a, byte);
+    } else {
+        step_binary(a, byte);
+    }
+}
+
+nx584_reading nx584_read(nx584_reader reader, const uint8_t *bytes, size_t bytes_len)
+{
+    nx584_reading a = {.reader = reader, .verdict = NX584_NONE};
+    if (!is_sound(&reader)) {
+        a.verdict = 12;
+        return a;
+    }
+    settle(&a.reader);
+    while (a.used < bytes_len && a.verdict == NX584_NONE)
+        step(&a, bytes[a.used++]);
+    return a;
+}
+
+nx584_reading nx584_step(nx584_reader reader, uint8_t byte)
+{
+    return nx584_read(reader, &byte, 1);
+}
+
+/* ---- writer */
+
+static size_t frame_binary(uint8_t *to, const uint8_t *body, size_t n)
+{
+    size_t k = 0;
+    to[k++] = BINARY_START;
+    for (size_t i = 0; i < n; i++) {
+        if (body[i] == BINARY_START || body[i] == ESCAPE) {
+            to[k++] = ESCAPE;
+            to[k++] = body[i] ^ 0x20;
+        } else {
+            to[k++] = body[i];
+        }
+    }
+    return k;
+}
+
+static uint8_t character(unsigned digit)
+{
+    return (uint8_t)(digit < 10 ? '0' + digit : 'A' + digit - 10);
+}
+
+static size_t frame_ascii(uint8_t *to, const uint8_t *body, size_t n)
+{
+    size_t k = 0;
+    to[k++] = ASCII_START;
+    for (size_t i = 0; i < n; i++) {
+        to[k++] = character(body[i] >> 4);
+        to[k++] = character(body[i] & 15);
+    }
+    to[k++] = ASCII_STOP;
+    return k;
+}
+
+nx584_written nx584_write(const uint8_t *message, size_t message_len, uint8_t framing, uint8_t *out,
+                          size_t out_len, size_t place)
+{
+    nx584_written w = {0};
+    uint8_t body[NX584_LONGEST + 3], frame[2 * (NX584_LONGEST + 3) + 2];
+    size_t n;
+    if (message_len < 1 || message_len > NX584_LONGEST) {
+        w.number = 4;
+        return w;
+    }
+    w.number = verdict_of(message, message_len);
+    if (w.number != 0)
+        return w;
+    body[0] = (uint8_t)message_len;
+    memcpy(body + 1, message, message_len);
+    fletcher(body, message_len + 1, &body[message_len + 1], &body[message_len + 2]);
+    if (framing)
+        n = frame_ascii(frame, body, message_len + 3);
+    else
+        n = frame_binary(frame, body, message_len + 3);
+    if (place > out_len || out_len - place < n) {
+        w.number = 9;
+        return w;
+    }
+    memcpy(out + place, frame, n);
+    w.length = n;
+    return w;
+}
+
+/* ---- table, overview, host */
+
+static void store_zone(uint8_t *zone, const uint8_t *m)
+{
+    uint8_t condition1 = m[6], condition2 = m[7], flags = 0;
+    if (condition1 & 0x01)
+        flags |= 1;
+    if (condition1 & 0x18)
+        flags |= 2;
+    if (condition1 & 0x66)
+        flags |= 4;
+    if (condition2 & 0x01)
+        flags |= 8;
+    zone[0] |= 3;
+    memcpy(zone + 1, m + 2, 6);
+    zone[7] = flags;
+}
+
+static void store_zones(uint8_t *zone, const uint8_t *m)
+{
+    for (int k = 0; k < 16; k += 2, zone += 2 * ZONE) {
+        uint8_t flags = m[2 + k / 2];
+        zone[0] |= 1;
+        zone[7] = flags & 15;
+        zone[ZONE] |= 1;
+        zone[ZONE + 7] = flags >> 4;
+    }
+}
+
+static void store(uint8_t *table, const uint8_t *m)
+{
+    uint8_t *partition = table + PARTITIONS;
+    switch (m[0] & 0x3F) {
+    case 0x04:
+        store_zone(table + ZONE * m[1], m);
+        break;
+    case 0x05:
+        store_zones(table + ZONE * m[1], m);
+        break;
+    case 0x06:
+        partition += PARTITION * m[1];
+        partition[0] |= 2;
+        memcpy(partition + 1, m + 2, 7);
+        break;
+    case 0x07:
+        for (int k = 0; k < 8; k++, partition += PARTITION) {
+            partition[0] |= 1;
+            partition[8] = m[1 + k];
+        }
+        break;
+    case 0x08:
+        table[SYSTEM] = 1;
+        memcpy(table + SYSTEM + 1, m + 1, 11);
+        break;
+    }
+}
+
+uint8_t nx584_apply(uint8_t *table, size_t table_len, const uint8_t *message, size_t message_len)
+{
+    uint8_t number;
+    if (table_len != NX584_TABLE_BYTES)
+        return 11;
+    if (message_len < 1 || message_len > NX584_LONGEST)
+        return 4;
+    number = verdict_of(message, message_len);
+    if (number == 0)
+        store(table, message);
+    return number;
+}
+
+static nx584_group group(unsigned heard, unsigned faulted)
+{
+    nx584_group g = {.heard = (uint16_t)heard, .faulted = (uint16_t)faulted, .known = heard > 0};
+    g.share = heard > 0 ? (double)faulted / heard : __builtin_nan("");
+    return g;
+}
+
+nx584_overview nx584_view(const uint8_t *table, size_t table_len)
+{
+    nx584_overview v = {.number = table_len == NX584_TABLE_BYTES ? 0 : 11};
+    unsigned all_heard = 0, all_faulted = 0;
+    for (int k = 0; k < 16; k++) {
+        unsigned heard = 0, faulted = 0;
+        for (int z = 16 * k; v.number == 0 && z < 16 * k + 16; z++) {
+            const uint8_t *zone = table + ZONE * z;
+            if (zone[0] & 1) {
+                heard++;
+                faulted += zone[7] & 1;
+            }
+        }
+        v.groups[k] = group(heard, faulted);
+        all_heard += heard;
+        all_faulted += faulted;
+    }
+    v.site = group(all_heard, all_faulted);
+    return v;
+}
+
+nx584_hearing nx584_hear(nx584_reader reader, uint8_t *table, size_t table_len, const uint8_t *bytes,
+                         size_t bytes_len)
+{
+    nx584_hearing h = {.reader = reader, .verdict = 11};
+    if (table_len != NX584_TABLE_BYTES)
+        return h;
+    nx584_reading a = nx584_read(reader, bytes, bytes_len);
+    h.reader = a.reader;
+    h.used = a.used;
+    h.verdict = a.verdict;
+    h.type = a.type;
+    h.reply = nx584_reply(a.verdict, a.type);
+    h.length = a.length;
+    memcpy(h.message, a.message, sizeof h.message);
+    if (a.verdict == 0)
+        store(table, a.message);
+    return h;
+}

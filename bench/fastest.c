@@ -1,0 +1,746 @@
+/* The fastest plain C that we could make of nx584.h: a whole frame at once in words of eight bytes, totals
+ * in place of eight-bit sums, `memchr` between frames. A struct that goes back is made of words, since a
+ * wide load of what was just stored in narrow pieces has to wait. What is not a whole frame is read byte
+ * by byte. tests/run holds it to the second program as it holds the library. */
+#include "plain.h"
+
+#if __BYTE_ORDER__ != __ORDER_LITTLE_ENDIAN__
+#error "the words are little-endian"
+#endif
+
+#define ALWAYS static inline __attribute__((always_inline))
+#define EACH(byte) (0x0101010101010101u * (byte))
+
+enum { WORDS = 24, CHARACTERS = 48 }; /* a frame's bytes and its digits, rounded up */
+
+ALWAYS uint64_t load(const uint8_t *p)
+{
+    uint64_t word;
+    memcpy(&word, p, 8);
+    return word;
+}
+
+ALWAYS uint32_t load_half(const uint8_t *p)
+{
+    uint32_t word;
+    memcpy(&word, p, 4);
+    return word;
+}
+
+typedef uint8_t bytes16 __attribute__((vector_size(16)));
+typedef uint8_t bytes8 __attribute__((vector_size(8)));
+typedef uint16_t pairs __attribute__((vector_size(16)));
+typedef uint64_t two __attribute__((vector_size(16)));
+
+/* Ones in the first n of 24 or 48 bytes. */
+static const uint8_t ones[2 * CHARACTERS] = {
+#define EIGHT 255, 255, 255, 255, 255, 255, 255, 255
+    EIGHT, EIGHT, EIGHT, EIGHT, EIGHT, EIGHT,
+};
+
+ALWAYS const uint8_t *first(size_t n)
+{
+    return ones + CHARACTERS - n;
+}
+
+/* ---- messages */
+
+/* The byte of a message that is checked, the bits of it, and the least and the span that they may have. */
+static const struct {
+    uint8_t at, bits, least, span;
+} rules[64] = {
+    [0x05] = {1, 0xFF, 0, 240},  [0x25] = {1, 0xFF, 0, 240}, [0x06] = {1, 0xFF, 0, 7},
+    [0x26] = {1, 0xFF, 0, 7},    [0x0B] = {2, 0xFF, 0, 0x15}, [0x10] = {2, 0xA0, 0, 0},
+    [0x2B] = {2, 0xFF, 0, 0},    [0x30] = {2, 0xB0, 0, 0},   [0x31] = {2, 0xA0, 0x20, 0},
+    [0x3C] = {4, 0xFF, 0, 7},    [0x3D] = {1, 0xFF, 0, 7},   [0x3E] = {1, 0xFF, 0, 0x0F},
+};
+
+static int values_are_good(const uint8_t *m)
+{
+    unsigned number = m[0] & 0x3F;
+    if (number == 0x3B)
+        return clock_is_good(m);
+    if ((number | 0x20) == 0x29)
+        return x10_is_good(m);
+    return (uint8_t)((m[rules[number].at] & rules[number].bits) - rules[number].least) <= rules[number].span;
+}
+
+/* ---- a frame in words: its length byte and its message, zero beyond them */
+
+typedef struct {
+    uint64_t w[3];
+} words;
+
+typedef struct {
+    uint8_t one, two;
+} sums;
+
+ALWAYS words load_words(const uint8_t *p, size_t n)
+{
+    words f;
+    for (int k = 0; k < 3; k++)
+        f.w[k] = load(p + 8 * k) & load(first(n) + 8 * k);
+    return f;
+}
+
+/* Not 0 where a byte is 7Dh or 7Eh. */
+ALWAYS uint64_t special(uint64_t w)
+{
+    uint64_t v = ((((w & EACH(0x7Fu)) + EACH(1u)) | EACH(1u)) ^ EACH(0x7Fu)) | (w & EACH(0x80u));
+    return (v - EACH(1u)) & ~v & EACH(0x80u);
+}
+
+/* Sum 2 counts byte j of n bytes n - j times. Four sums of 16 bits stand in a word; none overflows. */
+ALWAYS sums sums_of(words f, uint32_t n)
+{
+    const uint64_t even_bytes = 0x00FF00FF00FF00FFu, all = 0x0001000100010001u;
+    uint64_t even[3], odd[3], even_sum, odd_sum, later;
+    for (int k = 0; k < 3; k++) {
+        even[k] = f.w[k] & even_bytes;
+        odd[k] = f.w[k] >> 8 & even_bytes;
+    }
+    even_sum = even[0] + even[1] + even[2];
+    odd_sum = odd[0] + odd[1] + odd[2];
+    later = even[1] + odd[1] + 2 * (even[2] + odd[2]);
+    uint32_t total = (uint32_t)(((even_sum + odd_sum) * all) >> 48);
+    uint32_t places = (uint32_t)((even_sum * 0x0000000200040006u + odd_sum * 0x0001000300050007u) >> 48) +
+                      8 * (uint32_t)((later * all) >> 48);
+    sums s = {(uint8_t)(total % 255), (uint8_t)((n * total - places) % 255)};
+    return s;
+}
+
+/* ---- digits, sixteen at a time */
+
+ALWAYS bytes16 load_vector(const uint8_t *p)
+{
+    bytes16 v;
+    memcpy(&v, p, 16);
+    return v;
+}
+
+/* Eight bytes of sixteen characters; where one of those that count is no digit, bad becomes so. */
+ALWAYS bytes8 from_digits(const uint8_t *p, const uint8_t *counts, bytes16 *bad)
+{
+    bytes16 c = load_vector(p), number = c - '0', letter = c - 'A';
+    bytes16 is_number = (bytes16)(number < 10), is_letter = (bytes16)(letter < 6);
+    pairs both = (pairs)((number & is_number) | ((letter + 10) & is_letter));
+    *bad |= ~(is_number | is_letter) & load_vector(counts);
+    return __builtin_convertvector((both << 4 | both >> 8) & 0xFF, bytes8);
+}
+
+ALWAYS void to_digits(uint8_t *to, uint64_t w)
+{
+    bytes8 b;
+    memcpy(&b, &w, 8);
+    pairs wide = __builtin_convertvector(b, pairs);
+    bytes16 d = (bytes16)(wide >> 4 | (wide & 15) << 8);
+    d += '0' + ((bytes16)(d > 9) & 7);
+    memcpy(to, &d, 16);
+}
+
+/* ---- reader */
+
+/* What a read gives, in words: the reader's bytes, verdict and type byte, and for verdict 0 the frame's
+ * length byte and message. */
+typedef struct {
+    uint64_t reader[4];
+    size_t used;
+    uint64_t verdict, type;
+    words body;
+} scanned;
+
+/* The words of a reader, by loads that no two stores of a caller's copy fall into. */
+ALWAYS void load_reader(uint64_t *x, const nx584_reader *r)
+{
+    const uint8_t *p = (const uint8_t *)r;
+    bytes16 v;
+    two low;
+    memcpy(&v, p, 16);
+    memcpy(&low, &v, 16);
+    x[0] = low[0];
+    x[1] = low[1];
+    x[2] = load(p + 16);
+    x[3] = load_half(p + 24);
+}
+
+/* The reader that has had a verdict holds nothing. */
+ALWAYS void decided(scanned *s, unsigned framing, size_t used, uint8_t verdict)
+{
+    s->reader[0] = framing | (verdict == 1 ? IN_FRAME << 8 : SKIPPING);
+    s->reader[1] = s->reader[2] = s->reader[3] = 0;
+    s->used = used;
+    s->verdict = verdict;
+}
+
+/* The verdict on a whole frame of which 24 bytes can be loaded; at least its own are there. */
+ALWAYS void judge(scanned *s, unsigned framing, size_t used, const uint8_t *frame, words f)
+{
+    uint32_t n = frame[0];
+    sums right = sums_of(f, n + 1);
+    uint8_t verdict = 5;
+    if (frame[n + 1] == right.one && frame[n + 2] == right.two) {
+        verdict = verdict_of(frame + 1, n);
+        s->type = frame[1];
+        if (verdict == 0)
+            s->body = f;
+    }
+    decided(s, framing, used, verdict);
+}
+
+/* A frame whose first byte is at i, if that byte decides or it is all there and none of it is escaped. */
+ALWAYS int whole_binary(scanned *s, const uint8_t *b, size_t n, size_t i)
+{
+    uint8_t near_end[WORDS];
+    size_t left = n - i, length;
+    const uint8_t *frame = b + i;
+    if (left == 0 || frame[0] == ESCAPE)
+        return 0;
+    length = frame[0];
+    if (length - 1 >= NX584_LONGEST) {
+        decided(s, 0, i + 1, length == BINARY_START ? 1 : 4);
+        return 1;
+    }
+    if (left < length + 3)
+        return 0;
+    if (left < WORDS) {
+        memset(near_end, 0, WORDS);
+        frame = memcpy(near_end, frame, left);
+    }
+    words f = load_words(frame, length + 1);
+    uint64_t sum_bytes = (uint64_t)frame[length + 1] << 8 | frame[length + 2];
+    if (special(f.w[0]) | special(f.w[1]) | special(f.w[2]) | special(sum_bytes))
+        return 0;
+    judge(s, 0, i + length + 3, frame, f);
+    return 1;
+}
+
+ALWAYS int whole_ascii(scanned *s, const uint8_t *b, size_t n, size_t i)
+{
+    uint8_t near_end[CHARACTERS], frame[WORDS];
+    size_t left = n - i, length, characters;
+    const uint8_t *p = b + i;
+    bytes16 bad = {0};
+    uint64_t any[2];
+    if (left != 0 && !digits[p[0]]) {
+        decided(s, 1, i + 1, p[0] == ASCII_START ? 1 : 2);
+        return 1;
+    }
+    if (left < 9 || !digits[p[1]])
+        return 0;
+    length = (size_t)(digits[p[0]] & 15) << 4 | (digits[p[1]] & 15);
+    characters = 2 * (length + 3);
+    if (length - 1 >= NX584_LONGEST || left <= characters || p[characters] != ASCII_STOP)
+        return 0;
+    if (left < CHARACTERS) {
+        memset(near_end, 0, CHARACTERS);
+        p = memcpy(near_end, p, left);
+    }
+    for (int k = 0; k < 3; k++) {
+        bytes8 part = from_digits(p + 16 * k, first(characters) + 16 * k, &bad);
+        memcpy(frame + 8 * k, &part, 8);
+    }
+    memcpy(any, &bad, 16);
+    if (any[0] | any[1])
+        return 0;
+    judge(s, 1, i + characters + 1, frame, load_words(frame, length + 1));
+    return 1;
+}
+
+/* The reader as the byte loops leave it. */
+ALWAYS void keep(scanned *s, const nx584_reader *r, unsigned framing, unsigned mode, unsigned digit, unsigned held)
+{
+    load_reader(s->reader, r);
+    s->reader[0] = (s->reader[0] & ~(uint64_t)0xFFFFFFFFFFFF) | framing | mode << 8 | digit << 16 | (uint64_t)held << 32;
+}
+
+static void judge_held(scanned *s, const nx584_reader *r, unsigned framing, size_t used)
+{
+    uint8_t frame[WORDS];
+    memcpy(frame, r->bytes, sizeof r->bytes);
+    judge(s, framing, used, frame, load_words(frame, frame[0] + 1u));
+}
+
+static void bytes_binary(scanned *s, nx584_reader *r, const uint8_t *b, size_t n, size_t i)
+{
+    unsigned held = r->held, mode = r->mode, end = held ? r->bytes[0] + 3u : 1;
+    while (i < n) {
+        uint8_t c = b[i++];
+        if (c == BINARY_START) {
+            decided(s, 0, i, 1);
+            return;
+        }
+        if (mode == ESCAPED) {
+            c ^= 0x20;
+            mode = IN_FRAME;
+        } else if (c == ESCAPE) {
+            mode = ESCAPED;
+            continue;
+        }
+        r->bytes[held++] = c;
+        if (held != end)
+            continue;
+        if (held > 1) {
+            judge_held(s, r, 0, i);
+            return;
+        }
+        if (c - 1u >= NX584_LONGEST) {
+            decided(s, 0, i, 4);
+            return;
+        }
+        end = c + 3u;
+    }
+    keep(s, r, 0, mode, 0, held);
+    s->used = n;
+}
+
+static void bytes_ascii(scanned *s, nx584_reader *r, const uint8_t *b, size_t n, size_t i)
+{
+    unsigned held = r->held, end = held ? r->bytes[0] + 3u : 1;
+    unsigned pending = r->mode == DIGIT_PENDING, high = r->digit;
+    while (i < n) {
+        uint8_t c = b[i++];
+        if (held == end) {
+            if (c == ASCII_STOP)
+                judge_held(s, r, 1, i);
+            else
+                decided(s, 1, i, c == ASCII_START ? 1 : 3);
+            return;
+        }
+        unsigned digit = digits[c];
+        if (digit == 0) {
+            decided(s, 1, i, c == ASCII_START ? 1 : 2);
+            return;
+        }
+        digit -= 16;
+        pending ^= 1;
+        if (pending) {
+            high = digit;
+            continue;
+        }
+        c = (uint8_t)(high << 4 | digit);
+        r->bytes[held++] = c;
+        if (held == 1) {
+            if (c - 1u >= NX584_LONGEST) {
+                decided(s, 1, i, 4);
+                return;
+            }
+            end = c + 3u;
+        }
+    }
+    keep(s, r, 1, pending ? DIGIT_PENDING : IN_FRAME, pending ? high : 0, held);
+    s->used = n;
+}
+
+/* Any reader and any bytes; a skipping reader meets no start before i. */
+static __attribute__((noinline)) void scan_bytes(scanned *s, nx584_reader *r, const uint8_t *b, size_t n, size_t i)
+{
+    memset(s, 0, sizeof *s);
+    s->verdict = NX584_NONE;
+    if (!is_sound(r)) {
+        load_reader(s->reader, r);
+        s->verdict = 12;
+        return;
+    }
+    settle(r);
+    if (r->mode == SKIPPING) {
+        const uint8_t *at = i < n ? memchr(b + i, r->framing ? ASCII_START : BINARY_START, n - i) : NULL;
+        if (!at) {
+            keep(s, r, r->framing, SKIPPING, 0, r->held);
+            s->used = n;
+            return;
+        }
+        i = (size_t)(at - b) + 1;
+        r->mode = IN_FRAME;
+        r->held = 0;
+    }
+    if (r->framing)
+        bytes_ascii(s, r, b, n, i);
+    else
+        bytes_binary(s, r, b, n, i);
+}
+
+/* A reader that holds nothing meets a whole frame at once; 0: it does not, and no start before *from. */
+ALWAYS int scan_whole(scanned *s, const nx584_reader *r, const uint8_t *b, size_t n, size_t *from)
+{
+    unsigned mode = r->mode, ascii = r->framing;
+    *from = 0;
+    if (n < 2 || r->held != 0 || mode > IN_FRAME || ascii > 1)
+        return 0;
+    if (mode == SKIPPING && b[0] != (ascii ? ASCII_START : BINARY_START)) {
+        const uint8_t *at = memchr(b + 1, ascii ? ASCII_START : BINARY_START, n - 1);
+        *from = at ? (size_t)(at - b) : n;
+        if (!at)
+            return 0;
+    }
+    memset(s, 0, sizeof *s);
+    size_t i = *from + (mode == SKIPPING);
+    return ascii ? whole_ascii(s, b, n, i) : whole_binary(s, b, n, i);
+}
+
+/* Sixteen bytes of an answer in one store, as a caller that copies it loads them. */
+ALWAYS void put_two(uint8_t *to, uint64_t low, uint64_t high)
+{
+    two both = {low, high};
+    memcpy(to, &both, 16);
+}
+
+/* An answer: the reader, the used bytes, some bits of numbers, the frame's length byte and its message. */
+ALWAYS void put_answer(uint8_t *to, const scanned *s, uint64_t numbers, unsigned bits)
+{
+    const uint64_t *f = s->body.w;
+    put_two(to, s->reader[0], s->reader[1]);
+    put_two(to + 16, s->reader[2], s->reader[3]);
+    put_two(to + 32, s->used, numbers | f[0] << bits);
+    put_two(to + 48, f[0] >> (64 - bits) | f[1] << bits, f[1] >> (64 - bits) | f[2] << bits);
+}
+
+ALWAYS void put_reading(nx584_reading *a, const scanned *s)
+{
+    _Static_assert(sizeof *a == 64 && offsetof(nx584_reading, length) == 42, "an answer's words");
+    put_answer((uint8_t *)a, s, s->verdict | s->type << 8, 16);
+}
+
+static __attribute__((noinline)) void read_words(nx584_reading *a, nx584_reader *r, const uint8_t *bytes, size_t n)
+{
+    scanned whole, other;
+    size_t from;
+    if (scan_whole(&whole, r, bytes, n, &from)) {
+        put_reading(a, &whole);
+    } else {
+        scan_bytes(&other, r, bytes, n, from);
+        put_reading(a, &other);
+    }
+}
+
+/* A single byte in a frame, at which no verdict falls; 0: it is another. */
+ALWAYS int read_one(nx584_reading *a, const nx584_reader *from, unsigned c)
+{
+    unsigned held = from->held, mode = from->mode, end = from->bytes[0] + 3u, digit = 0;
+    uint64_t x[4], at = offsetof(nx584_reader, bytes) + held;
+    uint8_t *to = (uint8_t *)a;
+    if (mode == SKIPPING || held == 0 || !is_sound(from))
+        return 0;
+    if (from->framing) {
+        if (held == end || !digits[c])
+            return 0;
+        digit = digits[c] & 15;
+        if (mode == DIGIT_PENDING) {
+            c = (unsigned)from->digit << 4 | digit;
+            digit = 0;
+            mode = IN_FRAME;
+        } else {
+            mode = DIGIT_PENDING;
+        }
+    } else {
+        if (held + 1 == end || c == BINARY_START)
+            return 0;
+        if (mode == ESCAPED) {
+            c ^= 0x20;
+            mode = IN_FRAME;
+        } else {
+            mode = c == ESCAPE ? ESCAPED : IN_FRAME;
+        }
+    }
+    load_reader(x, from);
+    for (unsigned k = 0; k < 4; k++) {
+        uint64_t hole = at / 8 == k ? (uint64_t)0xFF << at % 8 * 8 : 0;
+        x[k] = (x[k] & ~hole) | (EACH((uint64_t)c) & hole);
+    }
+    held += mode == IN_FRAME;
+    x[0] = (x[0] & ~(uint64_t)0xFFFFFFFFFFFF) | (from->framing != 0) | mode << 8 | digit << 16 | (uint64_t)held << 32;
+    put_two(to, x[0], x[1]);
+    put_two(to + 16, x[2], x[3]);
+    put_two(to + 32, 1, NX584_NONE);
+    put_two(to + 48, 0, 0);
+    return 1;
+}
+
+nx584_reading nx584_read(nx584_reader reader, const uint8_t *bytes, size_t bytes_len)
+{
+    nx584_reading a;
+    if (bytes_len != 1 || !read_one(&a, &reader, bytes[0]))
+        read_words(&a, &reader, bytes, bytes_len);
+    return a;
+}
+
+nx584_reading nx584_step(nx584_reader reader, uint8_t byte)
+{
+    nx584_reading a;
+    if (!read_one(&a, &reader, byte))
+        read_words(&a, &reader, &byte, 1);
+    return a;
+}
+
+/* ---- writer */
+
+/* A message of 1 to 18 bytes in words, with no look beyond it. */
+ALWAYS words load_message(const uint8_t *m, size_t n)
+{
+    words f = {{0, 0, 0}};
+    if (n >= 16) {
+        f.w[0] = load(m);
+        f.w[1] = load(m + 8);
+        f.w[2] = load(m + n - 8) >> 8 >> 8 * (23 - n);
+    } else if (n >= 8) {
+        f.w[0] = load(m);
+        f.w[1] = load(m + n - 8) >> 8 >> 8 * (15 - n);
+    } else if (n >= 4) {
+        f.w[0] = load_half(m) | (uint64_t)load_half(m + n - 4) << 8 * (n - 4);
+    } else {
+        f.w[0] = m[0] | (uint64_t)m[n / 2] << n / 2 * 8 | (uint64_t)m[n - 1] << 8 * (n - 1);
+    }
+    return f;
+}
+
+/* A word stored over its first n bytes, for a message of n < 8. */
+ALWAYS void store_short(uint8_t *to, uint64_t w, size_t n)
+{
+    if (n >= 4) {
+        uint32_t low = (uint32_t)w, high = (uint32_t)(w >> 8 * (n - 4));
+        memcpy(to, &low, 4);
+        memcpy(to + n - 4, &high, 4);
+    } else {
+        to[0] = (uint8_t)w;
+        to[n / 2] = (uint8_t)(w >> n / 2 * 8);
+        to[n - 1] = (uint8_t)(w >> 8 * (n - 1));
+    }
+}
+
+/* The message with no escape, its ends laid over each other. */
+ALWAYS void store_message(uint8_t *to, const uint8_t *m, size_t n, words f)
+{
+    if (n < 8) {
+        store_short(to, f.w[0], n);
+        return;
+    }
+    uint64_t end = load(m + n - 8);
+    memcpy(to, &f.w[0], 8);
+    if (n >= 16)
+        memcpy(to + 8, &f.w[1], 8);
+    memcpy(to + n - 8, &end, 8);
+}
+
+static size_t stuff(uint8_t *to, const uint8_t *m, size_t n)
+{
+    size_t k = 0;
+    for (size_t i = 0; i < n; i++) {
+        if (m[i] == BINARY_START || m[i] == ESCAPE) {
+            to[k++] = ESCAPE;
+            to[k++] = m[i] ^ 0x20;
+        } else {
+            to[k++] = m[i];
+        }
+    }
+    return k;
+}
+
+/* The length of the frame, or 0 where it does not fit. */
+ALWAYS size_t write_binary(uint8_t *to, size_t room, const uint8_t *m, size_t n, words f, sums s)
+{
+    uint64_t ends = (uint64_t)s.one << 8 | s.two;
+    if (special(f.w[0]) | special(f.w[1]) | special(f.w[2]) | special(ends)) {
+        uint8_t frame[2 * (NX584_LONGEST + 3) + 2] = {BINARY_START, (uint8_t)n};
+        uint8_t last[2] = {s.one, s.two};
+        size_t end = 2 + stuff(frame + 2, m, n);
+        end += stuff(frame + end, last, 2);
+        if (room < end)
+            return 0;
+        memcpy(to, frame, end);
+        return end;
+    }
+    if (room < n + 4)
+        return 0;
+    to[0] = BINARY_START;
+    to[1] = (uint8_t)n;
+    store_message(to + 2, m, n, f);
+    to[n + 2] = s.one;
+    to[n + 3] = s.two;
+    return n + 4;
+}
+
+ALWAYS void two_digits(uint8_t *to, uint8_t b)
+{
+    static const char hex[] = "0123456789ABCDEF";
+    to[0] = (uint8_t)hex[b >> 4];
+    to[1] = (uint8_t)hex[b & 15];
+}
+
+ALWAYS size_t write_ascii(uint8_t *to, size_t room, const uint8_t *m, size_t n, words f, sums s)
+{
+    size_t end = 2 * n + 8;
+    if (room < end)
+        return 0;
+    to[0] = ASCII_START;
+    two_digits(to + 1, (uint8_t)n);
+    if (n >= 8) {
+        to_digits(to + 3, f.w[0]);
+        if (n >= 16)
+            to_digits(to + 19, f.w[1]);
+        to_digits(to + 2 * n - 13, load(m + n - 8));
+    } else {
+        for (size_t i = 0; i < n; i++)
+            two_digits(to + 3 + 2 * i, m[i]);
+    }
+    two_digits(to + end - 5, s.one);
+    two_digits(to + end - 3, s.two);
+    to[end - 1] = ASCII_STOP;
+    return end;
+}
+
+nx584_written nx584_write(const uint8_t *message, size_t message_len, uint8_t framing, uint8_t *out,
+                          size_t out_len, size_t place)
+{
+    nx584_written w = {0};
+    if (message_len - 1 >= NX584_LONGEST) {
+        w.number = 4;
+        return w;
+    }
+    w.number = verdict_of(message, message_len);
+    if (w.number)
+        return w;
+    words f = load_message(message, message_len);
+    words body = {{f.w[0] << 8 | message_len, f.w[0] >> 56 | f.w[1] << 8, f.w[1] >> 56 | f.w[2] << 8}};
+    sums s = sums_of(body, (uint32_t)message_len + 1);
+    if (place <= out_len) {
+        if (framing)
+            w.length = write_ascii(out + place, out_len - place, message, message_len, f, s);
+        else
+            w.length = write_binary(out + place, out_len - place, message, message_len, f, s);
+    }
+    w.number = w.length ? 0 : 9;
+    return w;
+}
+
+/* ---- table, overview, host */
+
+ALWAYS void store_zone(uint8_t *zone, const uint8_t *m)
+{
+    uint64_t given = load(m), c = m[6];
+    uint64_t flags = (c & 1) | ((c & 0x18) != 0) << 1 | ((c & 0x66) != 0) << 2 | (m[7] & 1) << 3;
+    uint64_t record = zone[0] | 3 | (given >> 16) << 8 | flags << 56;
+    memcpy(zone, &record, 8);
+}
+
+ALWAYS void store_zones(uint8_t *zone, const uint8_t *m)
+{
+    uint64_t flags = load(m + 2);
+    for (int k = 0; k < 16; k++) {
+        uint64_t record = (load(zone + ZONE * k) << 8 >> 8) | 1 | (flags >> 4 * k & 15) << 56;
+        memcpy(zone + ZONE * k, &record, 8);
+    }
+}
+
+static void store(uint8_t *table, const uint8_t *m)
+{
+    uint8_t *partition = table + PARTITIONS;
+    switch (m[0] & 0x3F) {
+    case 0x04:
+        store_zone(table + ZONE * m[1], m);
+        break;
+    case 0x05:
+        store_zones(table + ZONE * m[1], m);
+        break;
+    case 0x06:
+        partition += PARTITION * m[1];
+        partition[0] |= 2;
+        memcpy(partition + 1, m + 2, 7);
+        break;
+    case 0x07:
+        for (int k = 0; k < 8; k++, partition += PARTITION) {
+            partition[0] |= 1;
+            partition[8] = m[1 + k];
+        }
+        break;
+    case 0x08:
+        table[SYSTEM] = 1;
+        memcpy(table + SYSTEM + 1, m + 1, 11);
+        break;
+    }
+}
+
+uint8_t nx584_apply(uint8_t *table, size_t table_len, const uint8_t *message, size_t message_len)
+{
+    uint8_t number;
+    if (table_len != NX584_TABLE_BYTES)
+        return 11;
+    if (message_len - 1 >= NX584_LONGEST)
+        return 4;
+    number = verdict_of(message, message_len);
+    if (number == 0)
+        store(table, message);
+    return number;
+}
+
+/* Nothing heard is 0 / 0, a NaN. */
+ALWAYS void put_group(nx584_group *g, uint32_t heard, uint32_t faulted)
+{
+    uint64_t counts = heard | faulted << 16 | (uint64_t)(heard != 0) << 32;
+    memcpy(g, &counts, 8);
+    g->share = (double)(int32_t)faulted / (double)(int32_t)heard;
+}
+
+/* Bit 0 of each byte of sixteen zones, of two in a vector: those of eight pairs come to stand in one. */
+ALWAYS two gather(const uint8_t *zone)
+{
+    bytes16 bits = load_vector(zone);
+    for (int k = 1; k < 8; k++)
+        bits = (bits & (uint8_t)((1 << k) - 1)) | load_vector(zone + 2 * ZONE * k) << k;
+    return (two)bits;
+}
+
+/* The low half: how many of sixteen zones are heard; the high half: how many of those are faulted. */
+ALWAYS uint32_t count_group(const uint8_t *zone)
+{
+    two bits = gather(zone);
+    two both = (bits & 0xFF) | (bits & bits >> 56) << 16;
+    uint32_t four = (uint32_t)(both[0] | both[1] << 8);
+    four -= four >> 1 & 0x55555555;
+    four = (four & 0x33333333) + (four >> 2 & 0x33333333);
+    four = (four + (four >> 4)) & 0x0F0F0F0F;
+    return (four + (four >> 8)) & 0x00FF00FF;
+}
+
+nx584_overview nx584_view(const uint8_t *table, size_t table_len)
+{
+    nx584_overview v;
+    uint32_t site = 0;
+    v.number = table_len == NX584_TABLE_BYTES ? 0 : 11;
+    for (int k = 0; k < 16; k++) {
+        uint32_t counts = v.number ? 0 : count_group(table + 16 * ZONE * k);
+        put_group(&v.groups[k], counts & 0xFFFF, counts >> 16);
+        site += counts;
+    }
+    put_group(&v.site, site & 0xFFFF, site >> 16);
+    return v;
+}
+
+ALWAYS void put_hearing(nx584_hearing *h, const scanned *s, uint8_t *table)
+{
+    _Static_assert(sizeof *h == 64 && offsetof(nx584_hearing, length) == 43, "an answer's words");
+    uint64_t reply = nx584_reply((uint8_t)s->verdict, (uint8_t)s->type);
+    if (s->verdict == 0) {
+        uint8_t frame[WORDS];
+        memcpy(frame, s->body.w, WORDS);
+        store(table, frame + 1);
+    }
+    put_answer((uint8_t *)h, s, s->verdict | s->type << 8 | reply << 16, 24);
+}
+
+nx584_hearing nx584_hear(nx584_reader reader, uint8_t *table, size_t table_len, const uint8_t *bytes,
+                         size_t bytes_len)
+{
+    nx584_hearing h;
+    scanned whole, other;
+    size_t from;
+    if (table_len != NX584_TABLE_BYTES) {
+        nx584_hearing refused = {.reader = reader, .verdict = 11};
+        return refused;
+    }
+    if (scan_whole(&whole, &reader, bytes, bytes_len, &from)) {
+        put_hearing(&h, &whole, table);
+    } else {
+        scan_bytes(&other, &reader, bytes, bytes_len, from);
+        put_hearing(&h, &other, table);
+    }
+    return h;
+}
