@@ -1,5 +1,6 @@
 # shellcheck shell=bash
-# What ./test and tests/run share: counting tests, the kit's folder, and what crates.txt lists.
+# What ./test, tests/run, tests/programs, tests/release, bench/run and tools/release share: counting tests, what crates.txt lists, programs for x86-64, and
+# the module behind an archive. They are read at the top of the repository.
 passed=0
 failed=0
 
@@ -63,9 +64,29 @@ listed() {
     grep -Eq "^[[:blank:]]*$1[[:blank:]]*:" crates.txt
 }
 
+# is_stale FILE: whether it is missing or older than some source.
+is_stale() {
+    [ ! -e "$1" ] || [ -n "$(find crates crates.txt -newer "$1" -print -quit)" ]
+}
+
+# ---- programs for x86-64, which is what the kit makes; tests/x86 is the one place that knows how
+
 # kit_for_this_machine: the folder of the kit's tools for this kind of machine.
 kit_for_this_machine() {
-    local kit
-    kit=${RATTLE_HOME:-$(dirname "$(dirname "$(readlink -f "$(command -v rt)")")")}
-    printf '%s/on/%s\n' "$kit" "$(uname -m)"
+    tests/x86 kit
+}
+
+# run_x86 PROGRAM [WORD...]; where words are wanted and no function: tests/x86 run PROGRAM.
+run_x86() {
+    tests/x86 run "$@"
+}
+
+# compile_x86 [WORD...]: compiles C to an object, with the words of cc -c.
+compile_x86() {
+    tests/x86 compile "$@"
+}
+
+# link_x86 OUT OBJECT...
+link_x86() {
+    quietly tests/x86 link "$@"
 }
