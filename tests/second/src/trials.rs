@@ -294,21 +294,18 @@ fn any_views(chance: &mut Chance, calls: &mut Calls, budget: u64) {
     }
 }
 
-/// Partitions beyond the eighth are asked for too, and tables of another length.
+/// Every zone and partition of a table, those that there are not too, and some of a buffer that is no table.
 fn any_records(chance: &mut Chance, calls: &mut Calls, budget: u64) {
     while calls.made < budget {
-        let table = match chance.below(8) {
-            0 => made::no_table(chance),
-            _ => made::table(chance),
-        };
-        let (zone, partition) = (chance.byte(), chance.byte() & 15);
-        calls.call(Call::Keep { table: table.clone() });
+        calls.call(Call::Keep { table: made::table(chance) });
         (0..=255).for_each(|zone| drop(calls.call(Call::Zone { table: None, zone })));
         (0..=255).for_each(|partition| drop(calls.call(Call::Partition { table: None, partition })));
         calls.call(Call::System { table: None });
         calls.call(Call::Version);
-        calls.call(Call::Zone { table: Some(table.clone()), zone });
-        calls.call(Call::Partition { table: Some(table.clone()), partition });
-        calls.call(Call::System { table: Some(table) });
+        for table in [made::table(chance), made::no_table(chance), made::no_table(chance)] {
+            calls.call(Call::Zone { table: Some(table.clone()), zone: chance.byte() });
+            calls.call(Call::Partition { table: Some(table.clone()), partition: chance.byte() & 15 });
+            calls.call(Call::System { table: Some(table) });
+        }
     }
 }
