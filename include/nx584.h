@@ -1,13 +1,37 @@
 /* libnx584.a: reader, writer, replies, table and overview of the NX-584 protocol, in both framings.
  *
- * BUILD_AND_LINK
+ * From a release, x86-64 or 64-bit Arm Linux:
+ *
+ *     tar xzf pyttelow-0.1-aarch64-linux-gnu.tar.gz
+ *     cd pyttelow-0.1-aarch64-linux-gnu
+ *     cc -std=c11 -O2 -Iinclude examples/host.c lib/libnx584.a -o unit
+ *     ./unit --help
+ *
+ * From the source with the Rattle kit, on x86-64 Linux:
+ *
+ *     rt staticlib nx584
+ *     cc -std=c11 -O2 -Iinclude examples/host.c target/staticlib/libnx584.a -o unit
+ *
+ * The kit's archive is for x86-64. On any other machine that the kit has, its compiler, linker and
+ * emulator do the same:
+ *
+ *     rt staticlib nx584
+ *     tests/x86 compile -std=c11 -O2 -Iinclude examples/host.c -o unit.o
+ *     tests/x86 link unit unit.o target/staticlib/libnx584.a
+ *     tests/x86 run unit --help
  *
  * Pointers are valid for their lengths, the buffers of one call do not overlap, and NULL is passed
  * only with length 0. Every other argument is taken: a call refuses, with a number, and never traps.
  *
- * Threads, memory, machines: RUNS_HOW
+ * The library has no global and takes no memory from a heap: a call works on its arguments and on at
+ * most NX584_STACK_MOST bytes of stack, calls no system and never waits. Threads may call it at the
+ * same time; two calls that are lent the same table are kept apart by the caller where one of them
+ * writes it (nx584_apply, nx584_hear). It needs memcpy, memmove and memset of the C library and nothing
+ * else. Targets: x86-64 (System V calls) and, as a release, 64-bit Arm, both little-endian, with a
+ * size_t of 8 bytes and IEEE doubles.
  *
- * Nothing checks these lines against the library's source; the two are changed together. */
+ * Nothing proves these lines to be the library's source's; the two are changed together, and the tests
+ * try them. */
 #ifndef NX584_H
 #define NX584_H
 
@@ -19,9 +43,9 @@ extern "C" {
 #endif
 
 /* The version of these declarations: of the functions, the structs' layouts, the table's bytes and
- * the numbers below. It grows when one of those changes, and only then. A program that was compiled
- * with one version may be linked with an archive of another: it is then to stop where nx584_version()
- * is not NX584_VERSION, as no answer means what it says. */
+ * the numbers below. It grows when one of those changes, and only then. A program asks nx584_version()
+ * first and stops where it is another number: it was compiled with one version of this file and linked
+ * with an archive of another, and no answer would mean what it seems to. */
 #define NX584_VERSION 1
 
 /* ---- sizes */
@@ -32,7 +56,8 @@ extern "C" {
 #define NX584_TABLE_BYTES 2132     /* a table; all zero is a fresh one */
 #define NX584_ZONES 256
 #define NX584_PARTITIONS 8
-#define NX584_GROUPS 16            /* of 16 zones each */
+#define NX584_GROUPS 16       /* of 16 zones each */
+#define NX584_STACK_MOST 2048 /* of stack in a call, with its operands and its answer; measured */
 
 /* ---- numbers */
 

@@ -18,6 +18,14 @@ struct sigaction {
     int sa_flags;
     void (*sa_restorer)(void);
 };
+#define SA_ONSTACK 0x08000000
+typedef struct {
+    void *ss_sp;
+    int ss_flags;
+    unsigned long ss_size;
+} stack_t;
+int sigaltstack(const stack_t *, stack_t *);
+int raise(int);
 int sigaction(int, const struct sigaction *, struct sigaction *);
 int sigprocmask(int, const sigset_t *, sigset_t *);
 int sigemptyset(sigset_t *);

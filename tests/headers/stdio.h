@@ -7,6 +7,7 @@ extern FILE *stdout, *stderr;
 FILE *fopen(const char *, const char *);
 int fclose(FILE *);
 size_t fwrite(const void *, size_t, size_t, FILE *);
+int printf(const char *, ...) __attribute__((format(printf, 1, 2)));
 int fprintf(FILE *, const char *, ...) __attribute__((format(printf, 2, 3)));
 int fputs(const char *, FILE *);
 int fflush(FILE *);
