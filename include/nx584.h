@@ -1,8 +1,37 @@
 /* libnx584.a: reader, writer, replies, table and overview of the NX-584 protocol, in both framings.
  *
+ * From a release, x86-64 or 64-bit Arm Linux:
+ *
+ *     tar xzf pyttelow-0.1-aarch64-linux-gnu.tar.gz
+ *     cd pyttelow-0.1-aarch64-linux-gnu
+ *     cc -std=c11 -O2 -Iinclude examples/host.c lib/libnx584.a -o unit
+ *     ./unit --help
+ *
+ * From the source with the Rattle kit, on x86-64 Linux:
+ *
+ *     rt staticlib nx584
+ *     cc -std=c11 -O2 -Iinclude examples/host.c target/staticlib/libnx584.a -o unit
+ *
+ * The kit's archive is for x86-64. On any other machine that the kit has, its compiler, linker and
+ * emulator do the same:
+ *
+ *     rt staticlib nx584
+ *     tests/x86 compile -std=c11 -O2 -Iinclude examples/host.c -o unit.o
+ *     tests/x86 link unit unit.o target/staticlib/libnx584.a
+ *     tests/x86 run unit --help
+ *
  * Pointers are valid for their lengths, the buffers of one call do not overlap, and NULL is passed
  * only with length 0. Every other argument is taken: a call refuses, with a number, and never traps.
- * Nothing checks these lines against the library's source; the two are changed together. */
+ *
+ * The library has no global and takes no memory from a heap: a call works on its arguments and on at
+ * most NX584_STACK_MOST bytes of stack, calls no system and never waits. Threads may call it at the
+ * same time; two calls that are lent the same table are kept apart by the caller where one of them
+ * writes it (nx584_apply, nx584_hear). It needs memcpy, memmove and memset of the C library and nothing
+ * else. Targets: x86-64 (System V calls) and, as a release, 64-bit Arm, both little-endian, with a
+ * size_t of 8 bytes and IEEE doubles.
+ *
+ * Nothing proves these lines to be the library's source's; the two are changed together, and the tests
+ * try them. */
 #ifndef NX584_H
 #define NX584_H
 
@@ -13,13 +42,71 @@
 extern "C" {
 #endif
 
+/* The version of these declarations: of the functions, the structs' layouts, the table's bytes and
+ * the numbers below. It grows when one of those changes, and only then. A program asks nx584_version()
+ * first and stops where it is another number: it was compiled with one version of this file and linked
+ * with an archive of another, and no answer would mean what it seems to. */
 #define NX584_VERSION 1
-#define NX584_LONGEST 18       /* the longest message, its type byte included */
-#define NX584_TABLE_BYTES 2132 /* a table; all zero is a fresh one */
-#define NX584_NONE 255         /* no verdict yet */
 
-/* A reader is a value. framing: 0 binary, any other ASCII. mode: 0 skipping, 1 in a frame, 2 after a
- * 7Dh, 3 a digit pending, which is in digit. held: how many recovered bytes stand in bytes. */
+/* ---- sizes */
+
+#define NX584_LONGEST 18           /* the longest message, its type byte included */
+#define NX584_BINARY_FRAME_MOST 41 /* the longest binary frame */
+#define NX584_FRAME_MOST 44        /* the longest frame in either framing */
+#define NX584_TABLE_BYTES 2132     /* a table; all zero is a fresh one */
+#define NX584_ZONES 256
+#define NX584_PARTITIONS 8
+#define NX584_GROUPS 16       /* of 16 zones each */
+#define NX584_STACK_MOST 2048 /* of stack in a call, with its operands and its answer; measured */
+
+/* ---- numbers */
+
+/* Framings. As an argument, any other number than 0 is ASCII. */
+#define NX584_BINARY 0
+#define NX584_ASCII 1
+
+/* Modes of a reader. */
+#define NX584_MODE_SKIPPING 0 /* up to the next start byte */
+#define NX584_MODE_OPEN 1     /* in a frame */
+#define NX584_MODE_ESCAPE 2   /* binary: after a 7Dh */
+#define NX584_MODE_DIGIT 3    /* ASCII: a digit is pending */
+
+/* Verdicts. */
+#define NX584_GOOD 0
+#define NX584_CUT_SHORT 1    /* a start byte came before the frame had its verdict */
+#define NX584_NO_DIGIT 2     /* ASCII: no digit where one is due */
+#define NX584_NO_STOP 3      /* ASCII: no 0Dh where the stop is due */
+#define NX584_BAD_LENGTH 4   /* a length of 0 or above 18 */
+#define NX584_BAD_SUMS 5     /* the sums differ */
+#define NX584_UNKNOWN 6      /* the number is none of the 41 */
+#define NX584_WRONG_LENGTH 7 /* the length is not that of its number */
+#define NX584_BAD_VALUE 8    /* a checked value is wrong */
+#define NX584_NONE 255       /* no verdict yet */
+
+/* Refusals, beside 4, 6, 7 and 8. */
+#define NX584_NO_ROOM 9    /* the frame does not fit from its place to the end of the buffer */
+#define NX584_SUM_FF 10    /* a sum byte would be FFh; no message is known to cause it */
+#define NX584_NO_TABLE 11  /* the buffer is not NX584_TABLE_BYTES long */
+#define NX584_NOT_SOUND 12 /* the reader is none that the library made */
+
+/* Replies: messages of one byte. */
+#define NX584_NO_REPLY 0
+#define NX584_ACKNOWLEDGE 0x1D
+#define NX584_NEGATIVE 0x1E
+#define NX584_REJECTED 0x1F
+
+/* Bits of a mark, and of a zone's short flags. */
+#define NX584_HEARD 0x01        /* flags is as the panel said it; of the system: bytes is */
+#define NX584_STATUS_HEARD 0x02 /* bytes is, too */
+#define NX584_FAULTED 0x01
+#define NX584_BYPASS 0x02
+#define NX584_TROUBLE 0x04
+#define NX584_ALARM_MEMORY 0x08
+
+/* ---- structs */
+
+/* A reader is a value: copy it, keep it, hand it to the next call. held: how many recovered bytes
+ * stand in bytes. digit: the pending one. */
 typedef struct {
     uint8_t framing, mode, digit;
     uint16_t held;
@@ -35,6 +122,14 @@ typedef struct {
     uint8_t message[NX584_LONGEST];
 } nx584_reading;
 
+/* As nx584_reading, with verdict also 11; reply: the number of the message to answer with, 0 none. */
+typedef struct {
+    nx584_reader reader;
+    size_t used;
+    uint8_t verdict, type, reply, length;
+    uint8_t message[NX584_LONGEST];
+} nx584_hearing;
+
 /* number: 0 or the refusal. length: of the frame written, 0 where it was refused. */
 typedef struct {
     uint8_t number;
@@ -48,20 +143,47 @@ typedef struct {
     double share;
 } nx584_group;
 
-/* number: 0 or 11. */
+/* number: 0 or 11. Group k, of zones 16k - 15 to 16k, is groups[k - 1]. */
 typedef struct {
     uint8_t number;
-    nx584_group groups[16];
+    nx584_group groups[NX584_GROUPS];
     nx584_group site;
 } nx584_overview;
 
-/* As nx584_reading, with verdict also 11; reply: the number of the message to answer with, 0 none. */
+/* number: 0 or 11. bytes: partition mask, type flags 1 to 3, condition flags 1 and 2. flags: the
+ * short flags. */
 typedef struct {
-    nx584_reader reader;
-    size_t used;
-    uint8_t verdict, type, reply, length;
-    uint8_t message[NX584_LONGEST];
-} nx584_hearing;
+    uint8_t number, mark, flags, bytes[6];
+} nx584_zone_record;
+
+/* number: 0, 11, or 8 for a partition that there is not. bytes: condition flags 1 to 4, last user,
+ * condition flags 5 and 6. flags: the partition's byte of the partitions snapshot: bit 0 valid, 1 ready,
+ * 2 armed, 3 stay mode, 4 chime mode, 5 any entry delay, 6 any exit delay, 7 previous alarm. */
+typedef struct {
+    uint8_t number, mark, flags, bytes[7];
+} nx584_partition_record;
+
+/* number: 0 or 11. mark: 1 when heard. bytes: bytes 2 to 12 of the system status. */
+typedef struct {
+    uint8_t number, mark, bytes[11];
+} nx584_system_record;
+
+/* What the archive was compiled for; a machine with other sizes stops here. */
+typedef char nx584_has_size_t[sizeof(size_t) == 8 ? 1 : -1];
+typedef char nx584_has_reader[sizeof(nx584_reader) == 28 ? 1 : -1];
+typedef char nx584_has_reading[sizeof(nx584_reading) == 64 ? 1 : -1];
+typedef char nx584_has_hearing[sizeof(nx584_hearing) == 64 ? 1 : -1];
+typedef char nx584_has_written[sizeof(nx584_written) == 16 ? 1 : -1];
+typedef char nx584_has_group[sizeof(nx584_group) == 16 ? 1 : -1];
+typedef char nx584_has_overview[sizeof(nx584_overview) == 280 ? 1 : -1];
+typedef char nx584_has_zone_record[sizeof(nx584_zone_record) == 9 ? 1 : -1];
+typedef char nx584_has_partition_record[sizeof(nx584_partition_record) == 10 ? 1 : -1];
+typedef char nx584_has_system_record[sizeof(nx584_system_record) == 13 ? 1 : -1];
+
+/* ---- functions */
+
+/* The NX584_VERSION that the archive was made with. */
+uint32_t nx584_version(void);
 
 /* A reader that has read nothing. */
 nx584_reader nx584_fresh(uint8_t framing);
@@ -77,7 +199,8 @@ nx584_reading nx584_read(nx584_reader reader, const uint8_t *bytes, size_t bytes
 nx584_written nx584_write(const uint8_t *message, size_t message_len, uint8_t framing, uint8_t *out,
                           size_t out_len, size_t place);
 
-/* The number of the message with which a host answers a verdict, 0 none. */
+/* The number of the message with which a host answers a verdict, 0 none. type is the type byte that came
+ * with it: with verdict 0, one that no good message has gets no reply. */
 uint8_t nx584_reply(uint8_t verdict, uint8_t type);
 
 /* Puts a message into a table. 0, or 11, 4, 6, 7, 8: the table stays as it was. */
@@ -85,6 +208,12 @@ uint8_t nx584_apply(uint8_t *table, size_t table_len, const uint8_t *message, si
 
 /* The sixteen groups and the site of a table. 11: counts 0 and nothing known. */
 nx584_overview nx584_view(const uint8_t *table, size_t table_len);
+
+/* Records of a table, so that no host computes offsets: they stay when a later version lays the table
+ * out in another way. zone: 0 for zone 1. partition: 0 for partition 1. Refused: all else is zero. */
+nx584_zone_record nx584_zone(const uint8_t *table, size_t table_len, uint8_t zone);
+nx584_partition_record nx584_partition(const uint8_t *table, size_t table_len, uint8_t partition);
+nx584_system_record nx584_system(const uint8_t *table, size_t table_len);
 
 /* Reads as nx584_read does, puts a good message into the table and says the reply. 11, 12: the reader
  * and the table stay as they were. */

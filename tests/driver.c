@@ -18,6 +18,10 @@
  *   hear   [reader table] bytes     hearing, beside[, table]
  *   keep   table                    nothing                keeps the table
  *   show                            the kept table
+ *   version                         number, 4 bytes
+ *   zone   [table] zone             record
+ *   partition [table] partition     record
+ *   system [table]                  record
  *
  * With the flag KEPT a call has no operand in brackets: it takes the kept reader and table, and keeps
  * the next reader and the table as they come back. With the flag NULLS an empty buffer is passed as
@@ -25,7 +29,8 @@
  * it with another. */
 #include "nx584.h"
 
-enum { FRESH = 1, STEP, READ, WRITE, REPLY, APPLY, VIEW, HEAR, KEEP, SHOW, FUNCTION = 0x1F };
+enum { FRESH = 1, STEP, READ, WRITE, REPLY, APPLY, VIEW, HEAR, KEEP, SHOW, VERSION, ZONE, PARTITION, SYSTEM };
+enum { FUNCTION = 0x1F };
 enum { NULLS = 0x40, KEPT = 0x80 };
 enum { LONGEST_BUFFER = 1 << 20, BESIDE = 16, MARK = 0xA5 };
 
@@ -325,6 +330,35 @@ static void call_hear(void)
     give_table(table);
 }
 
+static void call_zone(void)
+{
+    buffer *table = take_table();
+    nx584_zone_record z = nx584_zone(pointer(table), table->length, (uint8_t)take_number(1));
+    give_number(z.number, 1);
+    give_number(z.mark, 1);
+    give_number(z.flags, 1);
+    give(z.bytes, sizeof z.bytes);
+}
+
+static void call_partition(void)
+{
+    buffer *table = take_table();
+    nx584_partition_record p = nx584_partition(pointer(table), table->length, (uint8_t)take_number(1));
+    give_number(p.number, 1);
+    give_number(p.mark, 1);
+    give_number(p.flags, 1);
+    give(p.bytes, sizeof p.bytes);
+}
+
+static void call_system(void)
+{
+    buffer *table = take_table();
+    nx584_system_record s = nx584_system(pointer(table), table->length);
+    give_number(s.number, 1);
+    give_number(s.mark, 1);
+    give(s.bytes, sizeof s.bytes);
+}
+
 int main(void)
 {
     while (in_at < in_end || refill()) {
@@ -340,6 +374,10 @@ int main(void)
         case HEAR: call_hear(); break;
         case KEEP: take_buffer(&kept_table); break;
         case SHOW: give_buffer(&kept_table); break;
+        case VERSION: give_number(nx584_version(), 4); break;
+        case ZONE: call_zone(); break;
+        case PARTITION: call_partition(); break;
+        case SYSTEM: call_system(); break;
         default: leave(2);
         }
     }

@@ -5,7 +5,7 @@ use std::io::{self, Read};
 
 use crate::messages::LONGEST;
 use crate::reader::{read, Reader, Reading};
-use crate::table::{apply, hear, view, Group, Overview};
+use crate::table::{self, apply, hear, view, Group, Overview};
 use crate::writer::{reply, write, Written};
 
 /// A call. Where the reader or the table is None, the driver's kept one is meant.
@@ -21,7 +21,18 @@ pub enum Call {
     Hear { with: Option<(Reader, Vec<u8>)>, bytes: Vec<u8> },
     Keep { table: Vec<u8> },
     Show { length: usize },
+    Version,
+    Zone { table: Option<Vec<u8>>, zone: u8 },
+    Partition { table: Option<Vec<u8>>, partition: u8 },
+    System { table: Option<Vec<u8>> },
 }
+
+/// The version of nx584.h that is meant here.
+const VERSION: u32 = 1;
+/// The bytes of nx584_zone_record, nx584_partition_record and nx584_system_record.
+const ZONE_RECORD: usize = 9;
+const PARTITION_RECORD: usize = 10;
+const SYSTEM_RECORD: usize = 13;
 
 /// What a call answers. A table is there where the call brought its own.
 #[derive(Clone, Debug)]
@@ -42,6 +53,9 @@ pub enum Answer {
     },
     Nothing,
     Table(Vec<u8>),
+    Version(u32),
+    /// The bytes of a record, in the header's order.
+    Record(Vec<u8>),
     /// A byte beside a lent buffer was touched.
     Beside,
 }
@@ -60,6 +74,10 @@ pub struct Second {
 impl Second {
     pub fn new() -> Second {
         Second { reader: Reader::fresh(0), table: Vec::new() }
+    }
+
+    fn own<'a>(&'a self, table: &'a Option<Vec<u8>>) -> &'a [u8] {
+        table.as_ref().unwrap_or(&self.table)
     }
 
     fn reading(&mut self, own: &Option<Reader>, bytes: &[u8]) -> Answer {
@@ -94,7 +112,7 @@ impl Library for Second {
             Call::Apply { table: None, message } => {
                 Answer::Applied { number: apply(&mut self.table, message), table: Vec::new() }
             }
-            Call::View { table } => Answer::View(view(table.as_ref().unwrap_or(&self.table))),
+            Call::View { table } => Answer::View(view(self.own(table))),
             Call::Hear { with: Some((reader, table)), bytes } => {
                 let mut table = table.clone();
                 let (reading, reply) = hear(reader, &mut table, bytes);
@@ -110,6 +128,12 @@ impl Library for Second {
                 Answer::Nothing
             }
             Call::Show { .. } => Answer::Table(self.table.clone()),
+            Call::Version => Answer::Version(VERSION),
+            Call::Zone { table, zone } => Answer::Record(table::zone_record(self.own(table), *zone)),
+            Call::Partition { table, partition } => {
+                Answer::Record(table::partition_record(self.own(table), *partition))
+            }
+            Call::System { table } => Answer::Record(table::system_record(self.own(table))),
         }
     }
 }
@@ -148,6 +172,8 @@ impl Answer {
             ) => reading_is_met(e, a) && r == s && t == u,
             (Answer::Nothing, Answer::Nothing) => true,
             (Answer::Table(e), Answer::Table(a)) => e == a,
+            (Answer::Version(e), Answer::Version(a)) => e == a,
+            (Answer::Record(e), Answer::Record(a)) => e == a,
             _ => false,
         }
     }
@@ -178,6 +204,9 @@ impl Call {
                 | Call::Apply { table: None, .. }
                 | Call::View { table: None }
                 | Call::Hear { with: None, .. }
+                | Call::Zone { table: None, .. }
+                | Call::Partition { table: None, .. }
+                | Call::System { table: None }
         )
     }
 
@@ -193,6 +222,10 @@ impl Call {
             Call::Hear { .. } => 8,
             Call::Keep { .. } => 9,
             Call::Show { .. } => 10,
+            Call::Version => 11,
+            Call::Zone { .. } => 12,
+            Call::Partition { .. } => 13,
+            Call::System { .. } => 14,
         }
     }
 
@@ -221,7 +254,11 @@ impl Call {
                 table.iter().for_each(|t| put_buffer(line, t));
                 put_buffer(line, message);
             }
-            Call::View { table } => table.iter().for_each(|t| put_buffer(line, t)),
+            Call::View { table } | Call::System { table } => table.iter().for_each(|t| put_buffer(line, t)),
+            Call::Zone { table, zone: number } | Call::Partition { table, partition: number } => {
+                table.iter().for_each(|t| put_buffer(line, t));
+                line.push(*number);
+            }
             Call::Hear { with, bytes } => {
                 if let Some((reader, table)) = with {
                     put_reader(line, reader);
@@ -230,7 +267,7 @@ impl Call {
                 put_buffer(line, bytes);
             }
             Call::Keep { table } => put_buffer(line, table),
-            Call::Show { .. } => {}
+            Call::Show { .. } | Call::Version => {}
         }
     }
 
@@ -265,6 +302,10 @@ impl Call {
             }
             Call::Keep { .. } => Answer::Nothing,
             Call::Show { length } => Answer::Table(taken.bytes(*length)?),
+            Call::Version => Answer::Version(taken.number(4)? as u32),
+            Call::Zone { .. } => Answer::Record(taken.bytes(ZONE_RECORD)?),
+            Call::Partition { .. } => Answer::Record(taken.bytes(PARTITION_RECORD)?),
+            Call::System { .. } => Answer::Record(taken.bytes(SYSTEM_RECORD)?),
         })
     }
 }
@@ -395,6 +436,12 @@ impl fmt::Display for Call {
             }
             Call::Keep { table } => write!(f, "keep table {}", Hex(table)),
             Call::Show { .. } => write!(f, "show the kept table"),
+            Call::Version => write!(f, "version"),
+            Call::Zone { table, zone } => write!(f, "zone {zone} of table {}", table_or_kept(table)),
+            Call::Partition { table, partition } => {
+                write!(f, "partition {partition} of table {}", table_or_kept(table))
+            }
+            Call::System { table } => write!(f, "system of table {}", table_or_kept(table)),
         }
     }
 }
@@ -420,6 +467,8 @@ impl fmt::Display for Answer {
             }
             Answer::Nothing => write!(f, "nothing"),
             Answer::Table(table) => write!(f, "table {}", Hex(table)),
+            Answer::Version(number) => write!(f, "version {number}"),
+            Answer::Record(record) => write!(f, "record {}", Hex(record)),
             Answer::Beside => write!(f, "a byte beside the lent buffer was touched"),
         }
     }

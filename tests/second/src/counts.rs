@@ -5,7 +5,7 @@ use crate::messages::LENGTHS;
 use crate::reader::NONE;
 
 /// What is counted apart, and the numbers that a run must have met in it. Refusal 10 has no cause.
-const ROWS: [(&str, &[u8]); 9] = [
+const ROWS: [(&str, &[u8]); 12] = [
     ("read and step, binary: verdict", &[0, 1, 4, 5, 6, 7, 8, 12, NONE]),
     ("read and step, ASCII: verdict", &[0, 1, 2, 3, 4, 5, 6, 7, 8, 12, NONE]),
     ("hear: verdict", &[0, 1, 2, 3, 4, 5, 6, 7, 8, 11, 12, NONE]),
@@ -15,6 +15,9 @@ const ROWS: [(&str, &[u8]); 9] = [
     ("apply: number", &[0, 4, 6, 7, 8, 11]),
     ("view: number", &[0, 11]),
     ("reply", &[0, 0x1D, 0x1E, 0x1F]),
+    ("zone: number", &[0, 11]),
+    ("partition: number", &[0, 8, 11]),
+    ("system: number", &[0, 11]),
 ];
 /// Good frames of each number that a run must have read, in each framing.
 pub const GOOD_FRAMES: u64 = 1000;
@@ -55,6 +58,9 @@ impl Counts {
             (_, Answer::Applied { number, .. }) => add(6, *number),
             (_, Answer::View(overview)) => add(7, overview.number),
             (_, Answer::Reply(number)) => add(8, *number),
+            (Call::Zone { .. }, Answer::Record(record)) => add(9, record[0]),
+            (Call::Partition { .. }, Answer::Record(record)) => add(10, record[0]),
+            (Call::System { .. }, Answer::Record(record)) => add(11, record[0]),
             _ => {}
         }
     }

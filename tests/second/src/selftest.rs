@@ -5,6 +5,7 @@ use crate::made::{self, Chance};
 use crate::messages::{sums, sums_in_eight_bits, verdict_of, LENGTHS};
 use crate::parts::{frame, verdicts, Ascii, Binary, Framing, Judged};
 use crate::reader::NONE;
+use crate::table::{apply, partition_record, system_record, zone_record, TABLE_BYTES};
 use crate::writer::write;
 use crate::Tally;
 
@@ -83,10 +84,33 @@ fn cuts_do_not_matter(chance: &mut Chance) -> bool {
     })
 }
 
+/// A record has what the messages about it said, and nothing of another's.
+fn records_are_what_was_said() -> bool {
+    let mut table = vec![0; TABLE_BYTES];
+    let messages: [&[u8]; 5] = [
+        &[0x04, 9, 0x21, 0x22, 0x23, 0x24, 0x01, 0x01],
+        &[0x05, 16, 0x02, 0, 0, 0, 0, 0, 0, 0xC0],
+        &[0x06, 2, 0x31, 0x32, 0x33, 0x34, 0x35, 0x36, 0x37],
+        &[0x07, 0x40, 0x41, 0x42, 0x43, 0x44, 0x45, 0x46, 0x47],
+        &[0x08, 0x51, 0x52, 0x53, 0x54, 0x55, 0x56, 0x57, 0x58, 0x59, 0x5A, 0x5B],
+    ];
+    messages.iter().all(|message| apply(&mut table, message) == 0)
+        && zone_record(&table, 9) == [0, 3, 9, 0x21, 0x22, 0x23, 0x24, 0x01, 0x01]
+        && zone_record(&table, 16) == [0, 1, 2, 0, 0, 0, 0, 0, 0]
+        && zone_record(&table, 31) == [0, 1, 12, 0, 0, 0, 0, 0, 0]
+        && zone_record(&table, 32) == [0; 9]
+        && partition_record(&table, 2) == [0, 3, 0x42, 0x31, 0x32, 0x33, 0x34, 0x35, 0x36, 0x37]
+        && partition_record(&table, 7) == [0, 1, 0x47, 0, 0, 0, 0, 0, 0, 0]
+        && partition_record(&table, 8) == [8, 0, 0, 0, 0, 0, 0, 0, 0, 0]
+        && partition_record(&table[1..], 8)[0] == 11
+        && system_record(&table) == [0, 1, 0x51, 0x52, 0x53, 0x54, 0x55, 0x56, 0x57, 0x58, 0x59, 0x5A, 0x5B]
+}
+
 pub fn run(chance: &mut Chance, tally: &mut Tally) {
     tally.note("document 003's worked example", worked_example());
     tally.note("sums are those of document 003's pseudo-code", sums_are_the_pseudo_code(chance));
     tally.note("41 lengths", lengths_add_up());
     tally.note("written frames are read back", frames_are_read_back(chance));
     tally.note("cuts do not matter", cuts_do_not_matter(chance));
+    tally.note("records are what was said", records_are_what_was_said());
 }

@@ -89,6 +89,48 @@ pub fn apply(table: &mut [u8], message: &[u8]) -> u8 {
     verdict
 }
 
+/// Of a record in a table: 0, its mark, its short byte if it has one, and its bytes in between.
+fn record_at(table: &[u8], place: usize, bytes: usize, short: Option<usize>) -> Vec<u8> {
+    let mut record = vec![0, table[place + MARK]];
+    record.extend(short.map(|s| table[place + s]));
+    record.extend(&table[place + 1..place + 1 + bytes]);
+    record
+}
+
+/// A refused record: the number, all else zero.
+fn refused_record(number: u8, length: usize) -> Vec<u8> {
+    let mut record = vec![0; length];
+    record[0] = number;
+    record
+}
+
+/// The fields of nx584_zone_record: the mark, the short flags, mask to condition 2. Zone 0 is zone 1.
+pub fn zone_record(table: &[u8], number: u8) -> Vec<u8> {
+    if table.len() != TABLE_BYTES {
+        return refused_record(11, 9);
+    }
+    record_at(table, zone(usize::from(number)), 6, Some(ZONE_SHORT))
+}
+
+/// The fields of nx584_partition_record: the mark, the short byte, the seven bytes of 06h. Refusals: 11, then 8.
+pub fn partition_record(table: &[u8], number: u8) -> Vec<u8> {
+    if table.len() != TABLE_BYTES {
+        return refused_record(11, 10);
+    }
+    if number > 7 {
+        return refused_record(8, 10);
+    }
+    record_at(table, partition(usize::from(number)), 7, Some(PARTITION_SHORT))
+}
+
+/// The fields of nx584_system_record: the mark, bytes 2-12 of 08h.
+pub fn system_record(table: &[u8]) -> Vec<u8> {
+    if table.len() != TABLE_BYTES {
+        return refused_record(11, 13);
+    }
+    record_at(table, SYSTEM, 11, None)
+}
+
 /// The fields of nx584_group.
 #[derive(Clone, Copy, Debug)]
 pub struct Group {

@@ -17,19 +17,20 @@ pub struct Trial {
     pub make: fn(&mut Chance, &mut Calls, u64),
 }
 
-pub const TRIALS: [Trial; 12] = [
+pub const TRIALS: [Trial; 13] = [
     Trial { name: "reply: all 65,536 pairs", share: 0, make: all_replies },
     Trial { name: "every type byte at every length", share: 0, make: all_types_and_lengths },
     Trial { name: "every value of every byte of every message", share: 0, make: all_values },
     Trial { name: "X-10: every function with units", share: 0, make: all_x10 },
     Trial { name: "good frames of every number", share: 0, make: good_frames },
     Trial { name: "readers at every edge of held", share: 0, make: edge_readers },
-    Trial { name: "streams cut at random, read and step", share: 40, make: cut_streams },
-    Trial { name: "streams cut at random, hear", share: 20, make: heard_streams },
+    Trial { name: "streams cut at random, read and step", share: 38, make: cut_streams },
+    Trial { name: "streams cut at random, hear", share: 19, make: heard_streams },
     Trial { name: "readers of any kind", share: 15, make: any_readers },
-    Trial { name: "write around the edges of the buffer", share: 15, make: edge_writes },
-    Trial { name: "apply to any table", share: 6, make: any_applies },
+    Trial { name: "write around the edges of the buffer", share: 14, make: edge_writes },
+    Trial { name: "apply to any table", share: 5, make: any_applies },
     Trial { name: "view of any table", share: 4, make: any_views },
+    Trial { name: "version, every zone and partition of any table", share: 5, make: any_records },
 ];
 
 const FRAMINGS: [Framing; 2] = [Binary, Ascii];
@@ -290,5 +291,21 @@ fn any_views(chance: &mut Chance, calls: &mut Calls, budget: u64) {
             _ => made::table(chance),
         };
         calls.call(Call::View { table: Some(table) });
+    }
+}
+
+/// Every zone and partition of a table, those that there are not too, and some of a buffer that is no table.
+fn any_records(chance: &mut Chance, calls: &mut Calls, budget: u64) {
+    while calls.made < budget {
+        calls.call(Call::Keep { table: made::table(chance) });
+        (0..=255).for_each(|zone| drop(calls.call(Call::Zone { table: None, zone })));
+        (0..=255).for_each(|partition| drop(calls.call(Call::Partition { table: None, partition })));
+        calls.call(Call::System { table: None });
+        calls.call(Call::Version);
+        for table in [made::table(chance), made::no_table(chance), made::no_table(chance)] {
+            calls.call(Call::Zone { table: Some(table.clone()), zone: chance.byte() });
+            calls.call(Call::Partition { table: Some(table.clone()), partition: chance.byte() & 15 });
+            calls.call(Call::System { table: Some(table) });
+        }
     }
 }

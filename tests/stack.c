@@ -1,0 +1,129 @@
+/* How much stack the calls of nx584.h use: a signal's handler makes the call on a stack of its own, which was painted, and the paint is looked for. Prints each
+ * call's most over many made inputs, in bytes, its operands and its answer included; last, the most of all. */
+#define _XOPEN_SOURCE 700
+#include "nx584.h"
+
+#include <signal.h>
+#include <stdio.h>
+#include <string.h>
+
+enum { PAINTED = 1 << 14, PAINT = 0xA5, TURNS = 500 };
+
+static uint8_t table[NX584_TABLE_BYTES], bytes[64], message[NX584_LONGEST], out[NX584_FRAME_MOST];
+static size_t count;
+static nx584_reader reader;
+static uint8_t stack[PAINTED];
+static void (*called)(void);
+static volatile uint64_t sink;
+
+static uint64_t state = 1;
+
+static uint8_t chance(void)
+{
+    state = state * 6364136223846793005u + 1442695040888963407u;
+    return (uint8_t)(state >> 56);
+}
+
+/* ---- the calls, each on the globals above */
+
+static void call_nothing(void) {}
+static void call_version(void) { sink = nx584_version(); }
+static void call_fresh(void) { reader = nx584_fresh(bytes[0]); }
+static void call_step(void) { sink = nx584_step(reader, bytes[0]).used; }
+static void call_read(void) { sink = nx584_read(reader, bytes, count).used; }
+static void call_write(void) { sink = nx584_write(message, count % 19, bytes[0] & 1, out, sizeof out, 0).length; }
+static void call_reply(void) { sink = nx584_reply(bytes[0] % 10, bytes[1]); }
+static void call_apply(void) { sink = nx584_apply(table, sizeof table, message, count % 19); }
+static void call_view(void) { sink = nx584_view(table, sizeof table).site.heard; }
+static void call_zone(void) { sink = nx584_zone(table, sizeof table, bytes[0]).mark; }
+static void call_partition(void) { sink = nx584_partition(table, sizeof table, bytes[0]).mark; }
+static void call_system(void) { sink = nx584_system(table, sizeof table).mark; }
+static void call_hear(void) { sink = nx584_hear(reader, table, sizeof table, bytes, count).used; }
+
+static const struct {
+    const char *name;
+    void (*call)(void);
+} calls[] = {{"nothing", call_nothing}, {"nx584_version", call_version}, {"nx584_fresh", call_fresh}, {"nx584_step", call_step},
+             {"nx584_read", call_read}, {"nx584_write", call_write}, {"nx584_reply", call_reply}, {"nx584_apply", call_apply},
+             {"nx584_view", call_view}, {"nx584_zone", call_zone}, {"nx584_partition", call_partition}, {"nx584_system", call_system},
+             {"nx584_hear", call_hear}};
+
+/* ---- inputs: half of them good messages' frames, read by a fresh reader */
+
+static void make_input(void)
+{
+    static const uint8_t numbers[] = {4, 5, 6, 7, 8, 0x1D, 0x03, 0x3B, 0x29}, lengths[] = {8, 10, 9, 9, 12, 1, 18, 7, 4};
+    int which = chance() % 9;
+    for (size_t k = 0; k < sizeof message; k++)
+        message[k] = chance() % 16 ? chance() : 1;
+    for (size_t k = 0; k < sizeof bytes; k++)
+        bytes[k] = chance() % 8 ? chance() : (uint8_t)"\x7e\x7d\n\r0AF\x12"[chance() % 8];
+    message[0] = numbers[which];
+    message[1] &= 7;
+    count = chance() % 2 ? lengths[which] : chance() % sizeof bytes;
+    reader = nx584_fresh(bytes[0] & 1);
+    if (chance() % 2) {
+        nx584_written w = nx584_write(message, lengths[which], bytes[0] & 1, out, sizeof out, 0);
+        memcpy(bytes, out, w.length);
+        if (w.length > 0)
+            count = w.length;
+    }
+}
+
+/* ---- painting */
+
+#if defined(__x86_64__)
+__attribute__((force_align_arg_pointer)) /* the emulator hands over a stack that is not aligned */
+#endif
+static void on_signal(int number)
+{
+    (void)number;
+    called();
+}
+
+static void use_own_stack(void)
+{
+    stack_t own;
+    struct sigaction action;
+    memset(&own, 0, sizeof own);
+    memset(&action, 0, sizeof action);
+    own.ss_sp = stack;
+    own.ss_size = sizeof stack;
+    action.sa_handler = on_signal;
+    action.sa_flags = SA_ONSTACK;
+    sigaltstack(&own, NULL);
+    sigaction(SIGUSR1, &action, NULL);
+}
+
+/* How many bytes were touched; the signal's own are among them. */
+static size_t stack_of(void (*call)(void))
+{
+    size_t k = 0;
+    memset(stack, PAINT, sizeof stack);
+    called = call;
+    raise(SIGUSR1);
+    while (k < sizeof stack && stack[k] == PAINT)
+        k++;
+    return sizeof stack - k;
+}
+
+int main(void)
+{
+    size_t most = 0, nothing = 0;
+    use_own_stack();
+    for (size_t k = 0; k < sizeof calls / sizeof *calls; k++) {
+        size_t used = 0;
+        for (int turn = 0; turn < TURNS; turn++) {
+            make_input();
+            size_t now = stack_of(calls[k].call);
+            used = now > used ? now : used;
+        }
+        if (k == 0)
+            nothing = used;
+        used -= nothing;
+        printf("%s %zu\n", calls[k].name, used);
+        most = used > most ? used : most;
+    }
+    printf("most %zu\n", most);
+    return 0;
+}
