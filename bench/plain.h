@@ -1,5 +1,5 @@
-/* What the two plain C programs share: constants, what document 01 says of messages and replies, and
- * which readers are sound. careful.c and fastest.c have all else, each in its own manner. */
+/* What the two plain C programs share: constants, what document 01 says of messages and replies, which
+ * readers are sound, and a table's records. careful.c and fastest.c have all else, each in its own manner. */
 #include "nx584.h"
 
 #include <string.h>
@@ -97,4 +97,51 @@ static void settle(nx584_reader *r)
         r->mode = IN_FRAME;
     if (r->mode != DIGIT_PENDING)
         r->digit = 0;
+}
+
+/* ---- questions of a table; a refused one is all zero but for its number */
+
+uint32_t nx584_version(void)
+{
+    return NX584_VERSION;
+}
+
+nx584_zone_record nx584_zone(const uint8_t *table, size_t table_len, uint8_t zone)
+{
+    nx584_zone_record a = {0};
+    if (table_len != NX584_TABLE_BYTES) {
+        a.number = 11;
+        return a;
+    }
+    const uint8_t *record = table + ZONE * zone;
+    a.mark = record[0];
+    a.flags = record[7];
+    memcpy(a.bytes, record + 1, sizeof a.bytes);
+    return a;
+}
+
+nx584_partition_record nx584_partition(const uint8_t *table, size_t table_len, uint8_t partition)
+{
+    nx584_partition_record a = {0};
+    if (table_len != NX584_TABLE_BYTES || partition > 7) {
+        a.number = table_len != NX584_TABLE_BYTES ? 11 : 8;
+        return a;
+    }
+    const uint8_t *record = table + PARTITIONS + PARTITION * partition;
+    a.mark = record[0];
+    a.flags = record[8];
+    memcpy(a.bytes, record + 1, sizeof a.bytes);
+    return a;
+}
+
+nx584_system_record nx584_system(const uint8_t *table, size_t table_len)
+{
+    nx584_system_record a = {0};
+    if (table_len != NX584_TABLE_BYTES) {
+        a.number = 11;
+        return a;
+    }
+    a.mark = table[SYSTEM];
+    memcpy(a.bytes, table + SYSTEM + 1, sizeof a.bytes);
+    return a;
 }

@@ -3,6 +3,7 @@
 
 use std::slice;
 
+const VERSION: u32 = 1;
 const LONGEST: usize = 18;
 const TABLE_BYTES: usize = 2132;
 const NONE: u8 = 255;
@@ -80,6 +81,29 @@ pub struct Hearing {
     reply: u8,
     length: u8,
     message: [u8; LONGEST],
+}
+
+#[repr(C)]
+pub struct ZoneRecord {
+    number: u8,
+    mark: u8,
+    flags: u8,
+    bytes: [u8; 6],
+}
+
+#[repr(C)]
+pub struct PartitionRecord {
+    number: u8,
+    mark: u8,
+    flags: u8,
+    bytes: [u8; 7],
+}
+
+#[repr(C)]
+pub struct SystemRecord {
+    number: u8,
+    mark: u8,
+    bytes: [u8; 11],
 }
 
 // ---- messages
@@ -477,6 +501,38 @@ fn hear(reader: Reader, table: &mut [u8], bytes: &[u8]) -> Hearing {
     hearing
 }
 
+// ---- questions of a table; a refused one is all zero but for its number
+
+/// 0 and the N bytes from a place on; or the refusal and zeros.
+fn part<const N: usize>(table: &[u8], refusal: u8, place: usize) -> (u8, [u8; N]) {
+    if table.len() != TABLE_BYTES {
+        (11, [0; N])
+    } else if refusal != 0 {
+        (refusal, [0; N])
+    } else {
+        let mut bytes = [0; N];
+        bytes.copy_from_slice(&table[place..place + N]);
+        (0, bytes)
+    }
+}
+
+fn zone(table: &[u8], zone: u8) -> ZoneRecord {
+    let (number, [mark, b @ .., flags]) = part::<ZONE>(table, 0, ZONE * usize::from(zone));
+    ZoneRecord { number, mark, flags, bytes: b }
+}
+
+fn partition(table: &[u8], partition: u8) -> PartitionRecord {
+    let refusal = if partition > 7 { 8 } else { 0 };
+    let place = PARTITIONS + PARTITION * usize::from(partition);
+    let (number, [mark, b @ .., flags]) = part::<PARTITION>(table, refusal, place);
+    PartitionRecord { number, mark, flags, bytes: b }
+}
+
+fn system(table: &[u8]) -> SystemRecord {
+    let (number, [mark, b @ ..]) = part::<12>(table, 0, SYSTEM);
+    SystemRecord { number, mark, bytes: b }
+}
+
 // ---- what C calls
 
 /// The bytes that C lends; NULL comes with length 0.
@@ -565,4 +621,30 @@ pub unsafe extern "C" fn nx584_hear(
     bytes_length: usize,
 ) -> Hearing {
     hear(reader, lent_mut(table, table_length), lent(bytes, bytes_length))
+}
+
+#[no_mangle]
+pub extern "C" fn nx584_version() -> u32 {
+    VERSION
+}
+
+/// # Safety
+/// As nx584.h says: pointers are valid for their lengths.
+#[no_mangle]
+pub unsafe extern "C" fn nx584_zone(table: *const u8, length: usize, number: u8) -> ZoneRecord {
+    zone(lent(table, length), number)
+}
+
+/// # Safety
+/// As nx584.h says: pointers are valid for their lengths.
+#[no_mangle]
+pub unsafe extern "C" fn nx584_partition(table: *const u8, length: usize, number: u8) -> PartitionRecord {
+    partition(lent(table, length), number)
+}
+
+/// # Safety
+/// As nx584.h says: pointers are valid for their lengths.
+#[no_mangle]
+pub unsafe extern "C" fn nx584_system(table: *const u8, length: usize) -> SystemRecord {
+    system(lent(table, length))
 }
