@@ -5,7 +5,6 @@ ghost use mathlib.Core.Path.{_≡_};
 ghost use mathlib.Core.List.{[], _∷_};
 ghost use Prim.Native.Nat.{_+_, _≤_};
 ghost use lib.ListN.{length};
-ghost use lib.Seq.{sets};
 ghost use Rattle.standard.specs.Words.{Put};
 ghost use Rattle.standard.specs.Sums.{sumsOf};
 ghost use Rattle.standard.specs.Messages.{longestKnown, checkOf};
