@@ -339,20 +339,6 @@ fn store(table: &mut [u8], reading: CReading)
     }
 }
 
-fn c_groups(groups: [Group; 16]) -> [CGroup; 16]
-    ensures { λ r. ⌜ r ≡ map cGroup (map groupValues groups) ⌝ }
-{
-    let first = groups[0];
-    let mut lines = [c_group(first); 16];
-    let mut i = 0;
-    while i < 16 {
-        let group = groups[i];
-        lines[i] = c_group(group);
-        i += 1;
-    }
-    lines
-}
-
 // A reader that has read nothing.
 #[no_mangle]
 pub extern "C" fn nx584_fresh(framing: u8) -> CReader
@@ -428,13 +414,28 @@ pub extern "C" fn nx584_apply(table: &mut [u8], message: &[u8]) -> u8
 pub extern "C" fn nx584_view(table: &[u8]) -> COverview
     ensures { λ r. ⌜ r ≡ cOverview (seenOf (now (table .entry))) ⌝ }
 {
-    let seen = overview::view(table);
-    let groups = seen.groups;
-    let site = seen.site;
+    let none = c_group(overview::with_share(0, 0));
+    let mut groups = [none; 16];
+    let first = table::zone_mark(table, 0);
+    if first.number != 0 {
+        return COverview {
+            number: first.number,
+            groups: groups,
+            site: none,
+        };
+    }
+    let mut heard: u16 = 0;
+    let mut faulted: u16 = 0;
+    for index in 0..16 {
+        let group = overview::group(table, index);
+        heard += group.heard;
+        faulted += group.faulted;
+        groups[index as usize] = c_group(group);
+    }
     COverview {
-        number: seen.number,
-        groups: c_groups(groups),
-        site: c_group(site),
+        number: 0,
+        groups: groups,
+        site: c_group(overview::with_share(heard, faulted)),
     }
 }
 
