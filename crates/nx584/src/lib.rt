@@ -24,6 +24,9 @@ ghost use Rattle.reader.specs.Read.{freshReader};
 ghost use Rattle.nx584.specs.Records.{cZone, cPartition, cSystem};
 ghost use Rattle.nx584.specs.Boundary.{framingFor, framingNumber, modeNumber, digitNumber, pendingFor, readerFor, cReader, soundC, lengthSaid, numbersSaid, padded, cRefused, cReading, withReply, cRead, CHears, CWrote, cGroup, cOverview};
 
+// NX584_VERSION: of the header that this library goes with.
+const VERSION: u32 = 1;
+
 // NX584_LONGEST: the most bytes of a message.
 const LONGEST: usize = standard::LONGEST;
 
@@ -500,7 +503,7 @@ pub extern "C" fn nx584_system(table: &[u8]) -> CSystem
     let mut record = [0u8; 12];
     bytes::copy(part, &mut record);
     let mut bytes = [0u8; 11];
-    bytes::copy(&record[1..], &mut bytes);
+    bytes::copy(&record[1..12], &mut bytes);
     CSystem {
         number: number,
         mark: record[0],
@@ -508,10 +511,10 @@ pub extern "C" fn nx584_system(table: &[u8]) -> CSystem
     }
 }
 
-// NX584_VERSION of the header that this library was made with.
+// To compare with NX584_VERSION.
 #[no_mangle]
 pub extern "C" fn nx584_version() -> u32
     ensures { λ r. ⌜ r ≡ 1 ⌝ }
 {
-    1
+    VERSION
 }
