@@ -1,5 +1,7 @@
--- Demand 2 over the reader's own `read`: a fresh reader on a written frame, whatever follows it, gives verdict 0 and the message, and uses exactly
--- the frame's bytes. By the used-byte rule: the frame hands out its message, and no shorter beginning of it hands out anything. Assumes nothing.
+-- Demand 2 over the reader's own `read`: a fresh reader on a written frame, whatever follows it, gives verdict 0 and
+-- the message, and uses exactly
+-- the frame's bytes. By the used-byte rule: the frame hands out its message, and no shorter beginning of it hands out
+-- anything. Assumes nothing.
 use Prim.Native.Nat.{ℕ, _+_, _<_}
 use native.Mathlib.Omega.{arith}
 use mathlib.Core.Path.{_≡_, refl, sym, ap, ap₂, _∙_}
@@ -27,12 +29,15 @@ neither true b e = e
 neither false b e = refl
 
 -- one part, which is unfinished, hands out nothing
-alone : (f : Framing) (l : List ℕ) → among (startOf f) l ≡ false → judge f (startOf f ∷ l) ≡ unfinished → handedOf f (startOf f ∷ l) ≡ []
+alone : (f : Framing) (l : List ℕ) → among (startOf f) l ≡ false → judge f (startOf f ∷ l) ≡ unfinished
+    → handedOf f (startOf f ∷ l) ≡ []
 alone f l a u =
-    let whole : upToStart (startOf f) l ≡ l = ap (upToStart (startOf f)) (sym (append-nil l)) ∙ up-to-through (startOf f) l [] a ∙ append-nil l in
-    let none : partsOf (startOf f) l ≡ [] = ap (partsOf (startOf f)) (sym (append-nil l)) ∙ parts-through (startOf f) l [] a in
-    ap (partsHand f) (parts-start (startOf f) l ∙ ap₂ (λ (p : List ℕ) (ps : List (List ℕ)). (startOf f ∷ p) ∷ ps) whole none)
-    ∙ rw u
+    let start = startOf f in
+    let same = sym (append-nil l) in
+    let whole : upToStart start l ≡ l = ap (upToStart start) same ∙ up-to-through start l [] a ∙ append-nil l in
+    let none : partsOf start l ≡ [] = ap (partsOf start) same ∙ parts-through start l [] a in
+    let one = ap₂ (λ (p : List ℕ) (ps : List (List ℕ)). (start ∷ p) ∷ ps) whole none in
+    ap (partsHand f) (parts-start start l ∙ one) ∙ rw u
 
 nil-front : (a b : List Handed) → a ++ b ≡ [] → a ≡ []
 nil-front [] b e = refl
@@ -60,7 +65,8 @@ module _ (f : Framing) (m q : List ℕ) (good : checkOf m ≡ 0) (bytes : Bytes 
       neither (among (startOf f) (w .front)) (among (startOf f) (w .last ∷ []))
       (sym (among-append (startOf f) (w .front) (w .last ∷ [])) ∙ w .reads .alone) in
       let begin : take k (frameOf f m ++ q) ≡ take k front =
-      take-append-le k (frameOf f m) q (omega arith) ∙ ap (take k) (w .is) ∙ take-append-le k front (w .last ∷ []) (omega arith) in
+      take-append-le k (frameOf f m) q (omega arith) ∙ ap (take k) (w .is)
+      ∙ take-append-le k front (w .last ∷ []) (omega arith) in
       ap (handedOf f) begin ∙ front-none f k front (alone f (w .front) clear (w .reads .before))
 
   uses : Uses f [] (frameOf f m ++ q) (length (frameOf f m)) (handing 0 m ∷ [])
@@ -72,7 +78,9 @@ module _ (f : Framing) (m q : List ℕ) (good : checkOf m ≡ 0) (bytes : Bytes 
   }
 
   -- WRITTEN, THEN READ by a fresh reader: the message, and exactly the frame's bytes used
-  pub fresh-reads : (readOf (freshReader f) (frameOf f m ++ q) .used ≡ length (frameOf f m)) × (readOf (freshReader f) (frameOf f m ++ q) .said ≡ handing 0 m ∷ [])
+  pub fresh-reads : (let a = readOf (freshReader f) (frameOf f m ++ q) in
+      (a .used ≡ length (frameOf f m)) × (a .said ≡ handing 0 m ∷ []))
   fresh-reads =
-      used-one f [] (frameOf f m ++ q) (readOf (freshReader f) (frameOf f m ++ q) .used) (length (frameOf f m)) (readOf (freshReader f) (frameOf f m ++ q) .said)
+      let a = readOf (freshReader f) (frameOf f m ++ q) in
+      used-one f [] (frameOf f m ++ q) (a .used) (length (frameOf f m)) (a .said)
       (handing 0 m ∷ []) (used-rule fresh (frameOf f m ++ q)) uses

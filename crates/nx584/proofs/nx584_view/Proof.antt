@@ -51,15 +51,18 @@ whole : (c : tie.Else1 Inv-loop μ-loop)
 whole c = asked-whole _ (sym (c .before .before .zone-mark .ensures .says) ∙ c .if1 .left)
 
 -- a group of a whole table, and that its counts fit
+abbrev tableOf : tie.After-group Inv-loop μ-loop → List ℕ
+tableOf c = c .before .before .before .before .before .before .before .before .before .args .table .now
+
 counts : (c : tie.After-group Inv-loop μ-loop)
-    → (let at = c .before .before in
-    groupValues (c .group .result) ≡ countedAt (at .before .before .before .before .before .before .before .args .table .now) (at .loop .index))
-counts c = rw (eq-eqb _ _ (whole (c .before .before .before)), lt-ltb _ _ (c .before .loop-test .taken)) at (c .group .ensures)
+    → groupValues (c .group .result) ≡ countedAt (tableOf c) (c .before .before .loop .index)
+counts c =
+    rw (eq-eqb _ _ (whole (c .before .before .before)), lt-ltb _ _ (c .before .loop-test .taken)) at (c .group .ensures)
 
 small : (c : tie.After-group Inv-loop μ-loop) → Bounded (c .group .result .heard) (c .group .result .faulted) 16
 small c =
     let at = c .before .before in
-    let b = group-bounded (at .before .before .before .before .before .before .before .args .table .now) (suc (at .loop .index)) in
+    let b = group-bounded (tableOf c) (suc (at .loop .index)) in
     let h = ap (λ (g : Counted). g .heard) (counts c) in
     let f = ap (λ (g : Counted). g .faulted) (counts c) in
     record { among = omega arith; few = omega arith }

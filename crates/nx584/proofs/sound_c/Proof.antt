@@ -10,7 +10,9 @@ returns : tie.Need-returns
 returns c = sym (no-mode (c .before .before .args .c) (c .if1 .taken))
 
 returns-2 : tie.Need-returns-2
-returns-2 c = sym (no-digit (c .before .before .before .before .before .before .args .c) (c .before .before .if2 .taken) (c .if3 .taken))
+returns-2 c =
+    let mode = c .before .before in
+    sym (no-digit (mode .before .before .before .before .args .c) (mode .if2 .taken) (c .if3 .taken))
 
 reader-for-requires : tie.Need-reader-for-requires
 reader-for-requires c κs = search needs
@@ -21,8 +23,11 @@ sound-requires c κs = search needs
 returns-3 : tie.Need-returns-3
 returns-3 c =
     let a = c .before .before .before .before .before .before .args .c in
+    let few = c .before .before .before .before .if1 .left in
     c .sound .ensures ∙ ap soundReader (c .before .reader-for .ensures)
-    ∙ sym (⊎-elim (λ w. a-digit a (w .0 .taken) (w .2 .left)) (λ w. another-mode a (c .before .before .before .before .if1 .left) (w .left)) (c .before .before .if2 .came))
+    ∙ sym (⊎-elim (λ w. a-digit a (w .0 .taken) (w .2 .left))
+    (λ w. another-mode a few (w .left))
+    (c .before .before .if2 .came))
 
 pub sound-c-spec : {M : Type 1} → statement M
 sound-c-spec =
