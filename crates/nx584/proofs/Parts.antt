@@ -41,7 +41,7 @@ module _ (refusal size : ℕ) (value part : List ℕ) (sized : refusal ≡ 0 →
       go : (t : Bool) → eqb refusal 0 ≡ t → after ≡ partUnless refusal size value
       go true e =
           let n = sized (eqb-true refusal 0 e) in
-          let fits : length (replicate {A = ℕ} size 0) ≤ length value = rw (length-replicate {A = ℕ} size 0) (omega arith) in
+          let fits : length (replicate {A = ℕ} size 0) ≤ length value = rw length-replicate (omega arith) in
           rw e (copied-all value (replicate size 0) fits (rw (given, e) at h))
       go false e = rw e (rw (given, e) at h)
 
