@@ -256,7 +256,8 @@ fn in_array(message: &[u8]) -> [u8; LONGEST]
 }
 
 // Document 01's soundness, after which a mode that the framing does not have reads as mode 1.
-fn sound_c(c: CReader) -> bool
+fn sound_c(c: CReader, reader: Reader) -> bool
+    requires { ⌜ reader ≡ readerFor c ⌝ }
     ensures { λ r. ⌜ r ≡ soundC c ⌝ }
 {
     if 3 < c.mode {
@@ -267,7 +268,6 @@ fn sound_c(c: CReader) -> bool
             return false;
         }
     }
-    let reader = reader_for(c);
     reader.sound()
 }
 
@@ -355,10 +355,10 @@ pub extern "C" fn nx584_fresh(framing: u8) -> CReader
 pub extern "C" fn nx584_read(reader: CReader, bytes: &[u8]) -> CReading
     ensures { λ r. ⌜ r ≡ cReading (cRead reader (now (bytes .entry))) ⌝ }
 {
-    if !sound_c(reader) {
+    let start = reader_for(reader);
+    if !sound_c(reader, start) {
         return refused(reader, 12);
     }
-    let start = reader_for(reader);
     let mode = start.mode;
     let mut frame = start.bytes;
     let scanned = reader::scan(mode, start.held, &mut frame, bytes);

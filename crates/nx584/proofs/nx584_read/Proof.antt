@@ -27,12 +27,12 @@ after c = record { mode = c .scan .result .mode; held = c .scan .result .held; b
 
 sound : (c : tie.After-scan) → soundC (asked c) ≡ true
 sound c =
-    let passed = c .before .before .before .before in
+    let passed = c .before .before .before in
     sym (passed .before .sound-c .ensures) ∙ not-false _ (passed .if1 .left)
 
 told : (c : tie.After-scan)
     → Reads (readerFor (asked c)) (given c) (after c) (c .scan .result .used) (c .scan .result .said)
-told c = rw (c .before .before .before .reader-for .ensures) at (c .scan .ensures)
+told c = rw (c .before .before .before .before .before .reader-for .ensures) at (c .scan .ensures)
 
 fits : (c : tie.After-scan) → (c .scan .result .held ≤ 65535) × (lengthSaid (c .scan .result .said) ≤ longest)
 fits c =
@@ -43,14 +43,14 @@ few : (c : tie.After-numbers) → c .numbers .result .length ≤ longest
 few c = rw (c .numbers .ensures, length-said (c .before .before .scan .result .said)) (fits (c .before .before) .1)
 
 sound-c-requires : tie.Need-sound-c-requires
-sound-c-requires c κs = search needs
+sound-c-requires c κs = c .reader-for .ensures
 
 refused-requires : tie.Need-refused-requires
 refused-requires c κs = search needs
 
 returns : tie.Need-returns
 returns c =
-    let start = c .before .before .before .before in
+    let start = c .before .before .before .before .before in
     let h = sym (c .before .before .sound-c .ensures) ∙ not-true _ (c .before .if1 .taken) in
     c .refused .ensures ∙ ap cReading (sym (read-refused (start .args .reader) (start .args .bytes .now) h))
 
@@ -112,10 +112,10 @@ pub nx584-read-spec : {M : Type 1} → statement M
 nx584-read-spec =
     tie.close
     (tie.spec
+    reader-for-requires
     sound-c-requires
     refused-requires
     returns
-    reader-for-requires
     slice-aggregate-scan
     scan-requires
     numbers-requires
