@@ -77,7 +77,10 @@ sound-back r =
 
 -- ---- the numbers that a call answers
 
-pub answered-settled : (m : Mode) (n : ℕ) (bytes : List ℕ) → settled (cReader (record { mode = m; held = n; bytes = bytes })) ≡ true
+abbrev made : Mode → ℕ → List ℕ → Reader
+made m n bytes = record { mode = m; held = n; bytes = bytes }
+
+pub answered-settled : (m : Mode) (n : ℕ) (bytes : List ℕ) → settled (cReader (made m n bytes)) ≡ true
 answered-settled (Skipping Binary) n bytes = refl
 answered-settled (Skipping Ascii) n bytes = refl
 answered-settled (Open Binary) n bytes = refl
@@ -94,15 +97,18 @@ record Same (framing mode digit : ℕ) (m : Mode) : Type 0 where
 numbers-back : (framing mode digit : ℕ) → framing ≤ 1 → mode ≤ 3 → (mode ≡ 2 → framing ≡ 0) → (mode ≡ 3 → framing ≡ 1)
     → ((mode ≡ 3 → ⊥) → digit ≡ 0) → Same framing mode digit (modeFor (framingFor framing) mode digit)
 numbers-back zero zero d f m e g z = record { of-framing = refl; of-mode = refl; of-digit = sym (z (λ x. omega arith)) }
-numbers-back zero (suc zero) d f m e g z = record { of-framing = refl; of-mode = refl; of-digit = sym (z (λ x. omega arith)) }
+numbers-back zero (suc zero) d f m e g z =
+    record { of-framing = refl; of-mode = refl; of-digit = sym (z (λ x. omega arith)) }
 numbers-back zero (suc (suc zero)) d f m e g z =
     record { of-framing = refl; of-mode = refl; of-digit = sym (z (λ x. omega arith)) }
 numbers-back zero (suc (suc (suc n))) d f m e g z = absurd (let x = g (omega arith) in omega arith)
-numbers-back (suc zero) zero d f m e g z = record { of-framing = refl; of-mode = refl; of-digit = sym (z (λ x. omega arith)) }
+numbers-back (suc zero) zero d f m e g z =
+    record { of-framing = refl; of-mode = refl; of-digit = sym (z (λ x. omega arith)) }
 numbers-back (suc zero) (suc zero) d f m e g z =
     record { of-framing = refl; of-mode = refl; of-digit = sym (z (λ x. omega arith)) }
 numbers-back (suc zero) (suc (suc zero)) d f m e g z = absurd (let x = e refl in omega arith)
-numbers-back (suc zero) (suc (suc (suc zero))) d f m e g z = record { of-framing = refl; of-mode = refl; of-digit = refl }
+numbers-back (suc zero) (suc (suc (suc zero))) d f m e g z =
+    record { of-framing = refl; of-mode = refl; of-digit = refl }
 numbers-back (suc zero) (suc (suc (suc (suc n)))) d f m e g z = absurd (omega arith)
 numbers-back (suc (suc n)) mode d f m e g z = absurd (omega arith)
 

@@ -1,5 +1,7 @@
--- DEMAND 3 at the boundary, over what the calls of C answer: a reader that C hands back is the one that it was given, and an answer's numbers tell
--- what was handed out; so a caller of `nx584_read` is one of `read`, and a caller of `nx584_hear` one of `hear`. Assumes nothing.
+-- DEMAND 3 at the boundary, over what the calls of C answer: a reader that C hands back is the one that it was given,
+-- and an answer's numbers tell
+-- what was handed out; so a caller of `nx584_read` is one of `read`, and a caller of `nx584_hear` one of `hear`.
+-- Assumes nothing.
 use Prim.Native.Nat.{ℕ, zero, suc, _+_, _≤_}
 use native.Mathlib.Omega.{arith}
 use mathlib.Core.Path.{_≡_, refl, sym, ap, _∙_}
@@ -38,7 +40,8 @@ use Rattle.nx584.proofs.Back.{reader-back, sound-back}
 -- ---- one answer
 
 -- what was said, from its numbers: 255 is no verdict, and the message is given back without its zeros
-told-back : (hs : List Handed) → verdictsIn (saidFor hs) ≡ map verdictFor hs → ((h : Handed) (more : List Handed) → hs ≡ h ∷ more → h .verdict ≤ 8)
+told-back : (hs : List Handed) → verdictsIn (saidFor hs) ≡ map verdictFor hs
+    → ((h : Handed) (more : List Handed) → hs ≡ h ∷ more → h .verdict ≤ 8)
     → handedBy (numberSaid hs) (typeSaid hs) (length (messageSaid hs)) (padded (messageSaid hs)) ≡ hs
 told-back [] one few = refl
 told-back (h ∷ []) one few =
@@ -49,13 +52,15 @@ told-back (h ∷ g ∷ hs) one few = absurd (let z = ap length one in omega arit
 pub read-back : (r : Reader) (bs : List ℕ) → soundReader r ≡ true → cRead (cReader r) bs ≡ cTook (readOf r bs)
 read-back r bs h = read-took (cReader r) bs (sound-back r ∙ h) ∙ ap (λ x. cTook (readOf x bs)) (reader-back r)
 
-pub said-back : (r : Reader) (bs : List ℕ) → soundReader r ≡ true → readingHands (cReading (cRead (cReader r) bs)) ≡ readOf r bs .said
+pub said-back : (r : Reader) (bs : List ℕ) → soundReader r ≡ true
+    → readingHands (cReading (cRead (cReader r) bs)) ≡ readOf r bs .said
 said-back r bs h =
     rw (read-back r bs h) (told-back (readOf r bs .said) (one-verdict r bs) (λ g more e. sound-verdict r bs g more h e))
 
 -- ---- `nx584_read`
 
-calls-same : (n : ℕ) (r : Reader) (reads : List (List ℕ)) → soundReader r ≡ true → cCallsOf n (cReader r) reads ≡ callsOf n r reads
+calls-same : (n : ℕ) (r : Reader) (reads : List (List ℕ)) → soundReader r ≡ true
+    → cCallsOf n (cReader r) reads ≡ callsOf n r reads
 unfolding cCallsOf callsOf
 calls-same zero r reads h = refl
 calls-same (suc n) r [] h = refl
@@ -65,19 +70,24 @@ calls-same (suc n) r (bs ∷ reads) h =
     (ap (λ hs. readOf r bs .said ++ hs) (calls-same n (readOf r bs .reader) left (sound-read r bs h)))
 
 -- the caller that hands in what is left before the next read
-pub c-cuts : (framing : ℕ) (reads : List (List ℕ)) → cDrive (cFresh framing) reads ≡ handedOf (framingFor framing) (joined reads)
+pub c-cuts : (framing : ℕ) (reads : List (List ℕ))
+    → cDrive (cFresh framing) reads ≡ handedOf (framingFor framing) (joined reads)
 unfolding cDrive drive
 c-cuts framing reads =
-    calls-same (length (joined reads) + length reads) (freshReader (framingFor framing)) reads refl ∙ reads-are-parts (framingFor framing) reads
+    calls-same (length (joined reads) + length reads) (freshReader (framingFor framing)) reads refl
+    ∙ reads-are-parts (framingFor framing) reads
 
 calls-are : {c : CReader} {reads : List (List ℕ)} {hs : List Handed} → CCalls c reads hs
     → (r : Reader) → c ≡ cReader r → soundReader r ≡ true → Calls r reads hs
 calls-are finished r e h = no-call
 calls-are (call {c} {bs} {reads} {again} {hs} {a} answer j calls) r e h =
-    let x : a ≡ cReading (cTook (readOf r bs)) = answer ∙ ap (λ y. cReading (cRead y bs)) e ∙ ap cReading (read-back r bs h) in
-    let said : readingHands a ≡ readOf r bs .said = ap readingHands (answer ∙ ap (λ y. cReading (cRead y bs)) e) ∙ said-back r bs h in
+    let x : a ≡ cReading (cTook (readOf r bs)) = answer ∙ ap (λ y. cReading (cRead y bs)) e
+    ∙ ap cReading (read-back r bs h) in
+    let said : readingHands a ≡ readOf r bs .said = ap readingHands (answer ∙ ap (λ y. cReading (cRead y bs)) e)
+    ∙ said-back r bs h in
     let used : a .used ≡ readOf r bs .used = ap (λ (y : CReading). y .used) x in
-    rw said (one-call (rw used at j) (calls-are calls (readOf r bs .reader) (ap (λ (y : CReading). y .reader) x) (sound-read r bs h)))
+    let next = ap (λ (y : CReading). y .reader) x in
+    rw said (one-call (rw used at j) (calls-are calls (readOf r bs .reader) next (sound-read r bs h)))
 
 -- any caller
 pub c-cuts-any-caller : (framing : ℕ) {reads : List (List ℕ)} {hs : List Handed} → CCalls (cFresh framing) reads hs
@@ -109,10 +119,12 @@ hear-back r t bs a after h w p =
 
 -- one answer more
 module _ (r : Reader) (t bs : List ℕ) (a : CHearing) (after : List ℕ) (x : Answers r t bs a after) where
-  also-answered : (hs : List Handed) → alsoHeard (hearingHands a) (a .reply) (heardAs after hs) ≡ heardAs t (readOf r bs .said ++ hs)
+  also-answered : (hs : List Handed)
+      → alsoHeard (hearingHands a) (a .reply) (heardAs after hs) ≡ heardAs t (readOf r bs .said ++ hs)
   also-answered hs = rw (x .said, x .reply, x .left) (also-as t (readOf r bs .said) hs (one-said r bs))
 
-whole-after : (r : Reader) (t bs : List ℕ) → length t ≡ tableBytes → length (tableAfter t (readOf r bs .said)) ≡ tableBytes
+whole-after : (r : Reader) (t bs : List ℕ) → length t ≡ tableBytes
+    → length (tableAfter t (readOf r bs .said)) ≡ tableBytes
 whole-after r t bs w = after-length t (readOf r bs .said) ∙ w
 
 hearings-same : (n : ℕ) (r : Reader) (t : List ℕ) (reads : List (List ℕ)) → soundReader r ≡ true → length t ≡ tableBytes
@@ -137,7 +149,8 @@ unfolding fresh
 fresh-whole = refl
 
 -- DEMAND 3 for C: the caller that hands in what is left before the next read
-pub c-demand3 : (framing : ℕ) (reads : List (List ℕ)) → cHearAll (cFresh framing) fresh reads ≡ streamHeard (framingFor framing) (joined reads)
+pub c-demand3 : (framing : ℕ) (reads : List (List ℕ))
+    → cHearAll (cFresh framing) fresh reads ≡ streamHeard (framingFor framing) (joined reads)
 unfolding cHearAll drive
 c-demand3 framing reads =
     hearings-same (length (joined reads) + length reads) (freshReader (framingFor framing)) fresh reads refl fresh-whole
@@ -164,7 +177,8 @@ calling (hear {c} {t} {bs} {after} {reads} {again} {later} {a} p j hearings) r e
     }
 
 -- and any caller
-pub c-demand3-any-caller : (framing : ℕ) {reads : List (List ℕ)} {heard : Heard} → CHearings (cFresh framing) fresh reads heard
+pub c-demand3-any-caller : (framing : ℕ) {reads : List (List ℕ)} {heard : Heard}
+    → CHearings (cFresh framing) fresh reads heard
     → heard ≡ streamHeard (framingFor framing) (joined reads)
 c-demand3-any-caller framing c =
     let w = calling c (freshReader (framingFor framing)) refl refl fresh-whole in

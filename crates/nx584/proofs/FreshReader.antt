@@ -1,6 +1,7 @@
 -- Demand 2 over the reader's own `read`: a fresh reader on a written frame, whatever follows it, gives verdict 0 and
--- the message, and uses exactly the frame's bytes. By the used-byte rule: the frame hands out its message, and no
--- shorter beginning of it hands out anything. Assumes nothing.
+-- the message, and uses exactly
+-- the frame's bytes. By the used-byte rule: the frame hands out its message, and no shorter beginning of it hands out
+-- anything. Assumes nothing.
 use Prim.Native.Nat.{ℕ, _+_, _<_}
 use native.Mathlib.Omega.{arith}
 use mathlib.Core.Path.{_≡_, refl, sym, ap, ap₂, _∙_}
@@ -31,11 +32,12 @@ neither false b e = refl
 alone : (f : Framing) (l : List ℕ) → among (startOf f) l ≡ false → judge f (startOf f ∷ l) ≡ unfinished
     → handedOf f (startOf f ∷ l) ≡ []
 alone f l a u =
-    let x = startOf f in
-    let whole : upToStart x l ≡ l = ap (upToStart x) (sym (append-nil l)) ∙ up-to-through x l [] a ∙ append-nil l in
-    let none : partsOf x l ≡ [] = ap (partsOf x) (sym (append-nil l)) ∙ parts-through x l [] a in
-    ap (partsHand f) (parts-start x l ∙ ap₂ (λ (p : List ℕ) (ps : List (List ℕ)). (x ∷ p) ∷ ps) whole none)
-    ∙ rw u
+    let start = startOf f in
+    let same = sym (append-nil l) in
+    let whole : upToStart start l ≡ l = ap (upToStart start) same ∙ up-to-through start l [] a ∙ append-nil l in
+    let none : partsOf start l ≡ [] = ap (partsOf start) same ∙ parts-through start l [] a in
+    let one = ap₂ (λ (p : List ℕ) (ps : List (List ℕ)). (start ∷ p) ∷ ps) whole none in
+    ap (partsHand f) (parts-start start l ∙ one) ∙ rw u
 
 nil-front : (a b : List Handed) → a ++ b ≡ [] → a ≡ []
 nil-front [] b e = refl
@@ -63,8 +65,7 @@ module _ (f : Framing) (m q : List ℕ) (good : checkOf m ≡ 0) (bytes : Bytes 
       neither (among (startOf f) (w .front)) (among (startOf f) (w .last ∷ []))
       (sym (among-append (startOf f) (w .front) (w .last ∷ [])) ∙ w .reads .alone) in
       let begin : take k (frameOf f m ++ q) ≡ take k front =
-      take-append-le k (frameOf f m) q (omega arith)
-      ∙ ap (take k) (w .is)
+      take-append-le k (frameOf f m) q (omega arith) ∙ ap (take k) (w .is)
       ∙ take-append-le k front (w .last ∷ []) (omega arith) in
       ap (handedOf f) begin ∙ front-none f k front (alone f (w .front) clear (w .reads .before))
 
@@ -77,10 +78,9 @@ module _ (f : Framing) (m q : List ℕ) (good : checkOf m ≡ 0) (bytes : Bytes 
   }
 
   -- WRITTEN, THEN READ by a fresh reader: the message, and exactly the frame's bytes used
-  pub fresh-reads : (readOf (freshReader f) (frameOf f m ++ q) .used ≡ length (frameOf f m))
-      × (readOf (freshReader f) (frameOf f m ++ q) .said ≡ handing 0 m ∷ [])
+  pub fresh-reads : (let a = readOf (freshReader f) (frameOf f m ++ q) in
+      (a .used ≡ length (frameOf f m)) × (a .said ≡ handing 0 m ∷ []))
   fresh-reads =
-      let stream = frameOf f m ++ q in
-      let given = readOf (freshReader f) stream in
-      used-unique f [] stream (given .used) (length (frameOf f m)) (given .said) (handing 0 m ∷ [])
-      (used-rule fresh stream) uses
+      let a = readOf (freshReader f) (frameOf f m ++ q) in
+      used-unique f [] (frameOf f m ++ q) (a .used) (length (frameOf f m)) (a .said)
+      (handing 0 m ∷ []) (used-rule fresh (frameOf f m ++ q)) uses

@@ -19,7 +19,8 @@ use Rattle.standard.specs.Messages.{longest}
 use Rattle.standard.specs.Replies.{replyOf}
 use Rattle.standard.specs.Table.{tableBytes, isTable, tableAfter, zonePlace, partitionPlace}
 use Rattle.standard.specs.Words.{byte, total}
-use Rattle.standard.specs.Overview.{Counted, Seen, counted, groupNumbers, heardOf, faultedOf, allSeen, nothingSeen, seenOf}
+use Rattle.standard.specs.Overview.{Counted, Seen, counted, groupNumbers, heardOf, faultedOf, allSeen, nothingSeen}
+use Rattle.standard.specs.Overview.{seenOf}
 use Rattle.standard.specs.Questions.{tableRefusal, partitionRefusal, partitionPart, systemPart}
 use Rattle.standard.proofs.Questions.{whole-asked}
 use Rattle.reader.specs.Step.{stepOf}
@@ -31,7 +32,7 @@ use Rattle.nx584.specs.declared.CWritten.{CWritten}
 use Rattle.nx584.specs.declared.CGroup.{CGroup}
 use Rattle.nx584.specs.declared.COverview.{COverview}
 use Rattle.nx584.specs.Boundary.{framingFor, cReader, soundC, padded, CGiven, cRefused, cRead, cReading}
-use Rattle.nx584.specs.Boundary.{cHeard, cHearing, cLeft, cWritten, cGroup, cOverview}
+use Rattle.nx584.specs.Boundary.{cHeard, withReply, cHearing, cLeft, cWritten, cGroup, cOverview}
 use Rattle.nx584.specs.Callers.{cFresh}
 use Rattle.nx584.specs.Records.{cZone, cPartition, cSystem}
 use Rattle.nx584.proofs.InC.{read-refused, heard-refused}
@@ -99,7 +100,8 @@ padded-front m = take-append-seam m (drop (0 + length m) (replicate longest 0))
 
 pub padded-zeros : (m : List ℕ) → drop (length m) (padded m) ≡ drop (length m) (replicate longest 0)
 padded-zeros m =
-    drop-append-seam m (drop (0 + length m) (replicate longest 0)) ∙ ap (λ n. drop n (replicate longest 0)) (zero-add (length m))
+    drop-append-seam m (drop (0 + length m) (replicate longest 0))
+    ∙ ap (λ n. drop n (replicate longest 0)) (zero-add (length m))
 
 -- no verdict: 255, and all else zero
 pub silent-is-255 : (c : CReader) (used : ℕ)
@@ -118,10 +120,11 @@ unsound-is-12 c bs h = ap cReading (read-refused c bs h)
 -- the table is asked first: 11, no reply, and the table as it was
 pub no-table-is-11 : (c : CReader) (t bs : List ℕ) → (length t ≡ tableBytes → ⊥)
     → (cHearing (cHeard c t bs)
-    ≡ record { reader = c; used = 0; verdict = 11; «type_byte» = 0; reply = 0; length = 0; message = replicate longest 0 })
+    ≡ withReply (refusing c 11) 0)
     × (cLeft c t bs ≡ t)
 unfolding tableAfter replyOf
-no-table-is-11 c t bs h = (ap cHearing (heard-refused c t bs h), ap (λ (a : CGiven). tableAfter t (a .said)) (heard-refused c t bs h))
+no-table-is-11 c t bs h =
+    (ap cHearing (heard-refused c t bs h), ap (λ (a : CGiven). tableAfter t (a .said)) (heard-refused c t bs h))
 
 -- ---- the writer's answer
 
@@ -158,7 +161,8 @@ abbrev seenBack : COverview → Seen
 seenBack o = record { number = o .number; groups = map groupBack (o .groups); site = groupBack (o .site) }
 
 groups-back : (heard faulted : ℕ → ℕ) (ks : List ℕ)
-    → map groupBack (map cGroup (map (λ k. counted (heard k) (faulted k)) ks)) ≡ map (λ k. counted (heard k) (faulted k)) ks
+    → map groupBack (map cGroup (map (λ k. counted (heard k) (faulted k)) ks))
+    ≡ map (λ k. counted (heard k) (faulted k)) ks
 groups-back heard faulted [] = refl
 groups-back heard faulted (k ∷ ks) = ap₂ _∷_ (group-back (heard k) (faulted k)) (groups-back heard faulted ks)
 
@@ -204,7 +208,8 @@ module _ (t : List ℕ) (h : length t ≡ tableBytes) where
       → getD t place 0 ∷ take 6 (drop (place + 1) t) ++ (getD t (place + 7) 0 ∷ []) ≡ take 8 (drop place t)
   eight place k =
       let rest = drop (suc place) t in
-      let last : getD rest 6 0 ≡ getD t (place + 7) 0 = getD-drop (suc place) t 6 0 ∙ ap (λ n. getD t n 0) (omega arith) in
+      let last : getD rest 6 0 ≡ getD t (place + 7) 0 = getD-drop (suc place) t 6 0
+      ∙ ap (λ n. getD t n 0) (omega arith) in
       rw (add-one place, sym last)
       (ap (λ l. getD t place 0 ∷ l) (sym (take-suc rest 6 0 (omega (arith, length-drop (suc place) t))))
       ∙ ap (take 8) (sym (drop-cons t place 0 (omega arith))))
@@ -218,7 +223,8 @@ module _ (t : List ℕ) (h : length t ≡ tableBytes) where
   nine (x ∷ l) e = ap (λ r. x ∷ r) (sym (take-suc l 7 0 (omega arith)) ∙ take-all 8 l (omega arith))
 
   pub partition-bytes : (partition : ℕ) → partition ≤ 7
-      → cPartition t partition .mark ∷ cPartition t partition .bytes ++ (cPartition t partition .flags ∷ []) ≡ partitionPart t partition
+      → cPartition t partition .mark ∷ cPartition t partition .bytes ++ (cPartition t partition .flags ∷ [])
+      ≡ partitionPart t partition
   unfolding partitionRefusal
   partition-bytes partition k =
       rw (eq-eqb (length t) tableBytes h, le-leb partition 7 k)

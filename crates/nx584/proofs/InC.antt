@@ -25,8 +25,10 @@ use Rattle.reader.proofs.Short.{Short, read-short}
 use Rattle.reader.proofs.Handing.{saidFor, one-verdict}
 use Rattle.host.specs.Hear.{replyTo}
 use Rattle.nx584.specs.declared.CReader.{CReader}
-use Rattle.nx584.specs.declared.CHearing.{CHearing}
-use Rattle.nx584.specs.Boundary.{readerFor, soundC, numberSaid, typeSaid, messageSaid, lengthSaid, numbersSaid, padded, cReader, cReading, withReply, cHearing, CGiven, cTook, cRefused, cRead, cHeard, CHears}
+use Rattle.nx584.specs.declared.CReading.{CReading}
+use Rattle.nx584.specs.Boundary.{readerFor, soundC, numberSaid, typeSaid, messageSaid, lengthSaid, numbersSaid}
+use Rattle.nx584.specs.Boundary.{padded, cReader, cReading, withReply, cHearing, CGiven, cTook, cRefused, cRead}
+use Rattle.nx584.specs.Boundary.{cHeard, CHears}
 
 same-both : {A : Type 0} (t : Bool) (x : A) → cond t x x ≡ x
 same-both true x = refl
@@ -40,7 +42,8 @@ pub no-message : (number : ℕ) → messageSaid (handing number [] ∷ []) ≡ [
 no-message number = same-both {A = List ℕ} (eqb number 0) []
 
 -- a message that is handed out is no longer than the longest
-pub few-said : (said : Said) (hs : List Handed) → verdictsIn said ≡ map verdictFor hs → Short hs → lengthSaid said ≤ longest
+pub few-said : (said : Said) (hs : List Handed) → verdictsIn said ≡ map verdictFor hs → Short hs
+    → lengthSaid said ≤ longest
 few-said Silent hs e k = omega arith
 few-said (Gave v) [] e k = absurd (cons≢nil e)
 few-said (Gave v) (h ∷ hs) e k =
@@ -64,14 +67,27 @@ pub another-mode : (c : CReader) → c .mode ≤ 3 → (c .mode ≡ 3 → ⊥) �
 unfolding soundC
 another-mode c h e = rw (le-leb (c .mode) 3 h, ne-eqb (c .mode) 3 e)
 
+-- an answer, from a verdict of code and a message in its array
+abbrev pub answered : CReader → ℕ → Verdict → List ℕ → CReading
+answered reader used v message = record {
+  reader = reader;
+  used = used;
+  verdict = v .number;
+  «type_byte» = v .«type_byte»;
+  length = v .length;
+  message = message;
+}
+
 -- a verdict and its message, which stands in the reader's bytes
 pub gave-line : (reader : CReader) (used : ℕ) (v : Verdict) (bytes message : List ℕ) → v .length + 1 ≤ length bytes
     → message ≡ padded (take (v .length + 1 - 1) (drop 1 bytes))
-    → record { reader = reader; used = used; verdict = v .number; «type_byte» = v .«type_byte»; length = v .length; message = message }
+    → answered reader used v message
     ≡ cReading (record { reader = reader; used = used; said = handedIn (Gave v) bytes })
 gave-line reader used v bytes message h e =
     let same : v .length + 1 - 1 ≡ v .length = omega arith in
-    let size : length (take (v .length) (drop 1 bytes)) ≡ v .length = length-take-le (v .length) (drop 1 bytes) (omega (arith, length-drop 1 bytes)) in
+    let rest = drop 1 bytes in
+    let room : v .length ≤ length rest = omega (arith, length-drop 1 bytes) in
+    let size : length (take (v .length) rest) ≡ v .length = length-take-le (v .length) rest room in
     rw (e, same, size)
 
 -- ---- a read by numbers
@@ -79,8 +95,9 @@ gave-line reader used v bytes message h e =
 pub c-sound : (c : CReader) → soundC c ≡ true → soundReader (readerFor c) ≡ true
 unfolding soundC
 c-sound c h =
-    let first = both-true (leb (c .mode) 3) (cond (eqb (c .mode) 3) (leb (c .digit) 15) true && soundReader (readerFor c)) h in
-    both-true (cond (eqb (c .mode) 3) (leb (c .digit) 15) true) (soundReader (readerFor c)) (first .1) .1
+    let digit = cond (eqb (c .mode) 3) (leb (c .digit) 15) true in
+    let first = both-true (leb (c .mode) 3) (digit && soundReader (readerFor c)) h in
+    both-true digit (soundReader (readerFor c)) (first .1) .1
 
 pub read-took : (c : CReader) (bs : List ℕ) → soundC c ≡ true → cRead c bs ≡ cTook (readOf (readerFor c) bs)
 unfolding cRead
@@ -99,8 +116,9 @@ unfolding cHeard
 heard-refused c t bs h = rw (ne-eqb (length t) tableBytes h)
 
 -- what a sound reader answers fits the numbers that C gets
-pub took-fits : (r : Reader) (bs : List ℕ) (reader : Reader) (said : Said) → soundReader r ≡ true → Gives reader said (readOf r bs)
-    → (reader .held ≤ 65535) × (lengthSaid said ≤ 18)
+pub took-fits : (r : Reader) (bs : List ℕ) (reader : Reader) (said : Said) → soundReader r ≡ true
+    → Gives reader said (readOf r bs)
+    → (reader .held ≤ 65535) × (lengthSaid said ≤ longest)
 took-fits r bs reader said h g =
     let held : reader .held ≡ readOf r bs .reader .held = ap (λ (x : Reader). x .held) (g .next) in
     let few : readOf r bs .reader .held ≤ longest + 3 = sound-held (readOf r bs .reader) (sound-read r bs h) in
@@ -113,7 +131,8 @@ took-c a reader used said g u = rw (g .handed, u, g .next)
 
 -- ---- what `nx584_hear` answers
 
-pub hear-refused : (c : CReader) (t bs : List ℕ) (number : ℕ) → cHeard c t bs ≡ cRefused c number → replyOf number 0 ≡ 0 → (number ≡ 0 → ⊥)
+pub hear-refused : (c : CReader) (t bs : List ℕ) (number : ℕ) → cHeard c t bs ≡ cRefused c number → replyOf number 0 ≡ 0
+    → (number ≡ 0 → ⊥)
     → CHears c t bs (withReply (cReading (cRefused c number)) 0) t
 unfolding tableAfter
 hear-refused c t bs number e r z =
@@ -121,17 +140,6 @@ hear-refused c t bs number e r z =
       says = rw (e, no-type number, r);
       leaves = rw (e, ne-eqb number 0 z);
     }
-
--- the turn of a loop that fills an array
-pub map-turn : {A B : Type 0} (f : A → B) (gs : List A) (out : List B) (i : ℕ) (d : A) (x : B) → i < length gs → i < length out
-    → take i out ≡ take i (map f gs) → x ≡ f (getD gs i d) → take (i + 1) (set out i x) ≡ take (i + 1) (map f gs)
-map-turn f gs out i d x h k e v =
-    let n : i < length (map f gs) = simp length-map h in
-    ap (λ (j : ℕ). take j (set out i x)) (add-one i) ∙ take-suc-set out i x k
-    ∙ ap (λ l. l ++ (x ∷ [])) e
-    ∙ ap (λ y. take i (map f gs) ++ (y ∷ [])) (v ∙ sym (List·getD-map f gs i d))
-    ∙ sym (take-suc (map f gs) i (f d) n)
-    ∙ ap (λ (j : ℕ). take j (map f gs)) (sym (add-one i))
 
 -- ---- what was said, from its numbers
 
@@ -142,7 +150,7 @@ length-said (Gave v) = refl
 -- an answer with or without a verdict, and its message
 pub said-c : (reader : CReader) (used : ℕ) (said : Said) (bytes message : List ℕ) → lengthSaid said + 1 ≤ length bytes
     → message ≡ padded (take (numbersSaid said .length + 1 - 1) (drop 1 bytes))
-    → record { reader = reader; used = used; verdict = numbersSaid said .number; «type_byte» = numbersSaid said .«type_byte»; length = numbersSaid said .length; message = message }
+    → answered reader used (numbersSaid said) message
     ≡ cReading (record { reader = reader; used = used; said = handedIn said bytes })
 said-c reader used Silent bytes message h e = rw e
 said-c reader used (Gave v) bytes message h e = gave-line reader used v bytes message h e
@@ -152,8 +160,13 @@ unfolding replyOf
 reply-said [] = refl
 reply-said (h ∷ hs) = refl
 
+-- the table after an answer that says this, by its numbers
+abbrev storedBy : List ℕ → List Handed → List ℕ
+storedBy t hs = cond (eqb (numberSaid hs) 0) (appliedTo t (take (length (messageSaid hs)) (padded (messageSaid hs)))) t
+
 stored-said : (t : List ℕ) (hs : List Handed) → verdictsIn (saidFor hs) ≡ map verdictFor hs
-    → cond (eqb (numberSaid hs) 0) (appliedTo t (take (length (messageSaid hs)) (padded (messageSaid hs)))) t ≡ tableAfter t hs
+    → storedBy t hs
+    ≡ tableAfter t hs
 unfolding tableAfter
 stored-said t [] e = refl
 stored-said t (h ∷ []) e = rw (take-append-seam (h .message) _)
@@ -165,19 +178,19 @@ short-said (h ∷ hs) k = k
 
 -- a read by numbers says at most one verdict, and its message fits
 pub stored-c : (c : CReader) (t bs : List ℕ)
-    → cond (eqb (numberSaid (cRead c bs .said)) 0) (appliedTo t (take (length (messageSaid (cRead c bs .said))) (padded (messageSaid (cRead c bs .said))))) t
-    ≡ tableAfter t (cRead c bs .said)
+    → storedBy t (cRead c bs .said) ≡ tableAfter t (cRead c bs .said)
 stored-c c t bs = go (soundC c) refl
   where
     go : (b : Bool) → soundC c ≡ b
-        → cond (eqb (numberSaid (cRead c bs .said)) 0) (appliedTo t (take (length (messageSaid (cRead c bs .said))) (padded (messageSaid (cRead c bs .said))))) t
+        → storedBy t (cRead c bs .said)
         ≡ tableAfter t (cRead c bs .said)
     go true h = rw (read-took c bs h) (stored-said t (readOf (readerFor c) bs .said) (one-verdict (readerFor c) bs))
     go false h = rw (read-refused c bs h) (stored-said t (handing 12 [] ∷ []) refl)
 
-pub c-short : (c : CReader) (bs : List ℕ) → length (messageSaid (cRead c bs .said)) ≤ 18
+pub c-short : (c : CReader) (bs : List ℕ) → length (messageSaid (cRead c bs .said)) ≤ longest
 c-short c bs = go (soundC c) refl
   where
-    go : (b : Bool) → soundC c ≡ b → length (messageSaid (cRead c bs .said)) ≤ 18
-    go true h = rw (read-took c bs h) (short-said (readOf (readerFor c) bs .said) (read-short (readerFor c) bs (c-sound c h)))
+    go : (b : Bool) → soundC c ≡ b → length (messageSaid (cRead c bs .said)) ≤ longest
+    go true h =
+        rw (read-took c bs h) (short-said (readOf (readerFor c) bs .said) (read-short (readerFor c) bs (c-sound c h)))
     go false h = rw (read-refused c bs h) (omega arith)

@@ -1,4 +1,5 @@
--- A part of a table that a question gave, copied over zeros: the part, or zeros where the question was refused. Assumes nothing.
+-- A part of a table that a question gave, copied over zeros: the part, or zeros where the question was refused. Assumes
+-- nothing.
 use Prim.Native.Nat.{ℕ, _+_, _≤_, _<_}
 use native.Mathlib.Omega.{arith}
 use mathlib.Core.Path.{_≡_, refl, ap, _∙_}
@@ -20,7 +21,8 @@ use Rattle.nx584.specs.Records.{partUnless, cPartition, cSystem}
 pub copied-all : (src over : List ℕ) {after : List ℕ} → length over ≤ length src
     → after ≡ take (length src) src ++ drop (length src) over → after ≡ src
 copied-all src over h e =
-    e ∙ ap (λ l. l ++ drop (length src) over) (take-length src) ∙ ap (λ l. src ++ l) (drop-of-length-le over h) ∙ append-nil src
+    e ∙ ap (λ l. l ++ drop (length src) over) (take-length src) ∙ ap (λ l. src ++ l) (drop-of-length-le over h)
+    ∙ append-nil src
 
 -- a part of known size, or none
 module _ (refusal size : ℕ) (value part : List ℕ) (sized : refusal ≡ 0 → length value ≡ size)
@@ -39,7 +41,8 @@ module _ (refusal size : ℕ) (value part : List ℕ) (sized : refusal ≡ 0 →
       go : (t : Bool) → eqb refusal 0 ≡ t → after ≡ partUnless refusal size value
       go true e =
           let n = sized (eqb-true refusal 0 e) in
-          rw e (copied-all value (replicate size 0) (rw (length-replicate {A = ℕ} size 0) (omega arith)) (rw (given, e) at h))
+          let fits : length (replicate {A = ℕ} size 0) ≤ length value = rw length-replicate (omega arith) in
+          rw e (copied-all value (replicate size 0) fits (rw (given, e) at h))
       go false e = rw e (rw (given, e) at h)
 
   pub unless-sized : length (partUnless refusal size value) ≡ size
@@ -56,12 +59,14 @@ toldPartition number nine =
     record { number = number; mark = byte 1 nine; flags = byte 9 nine; bytes = take 7 (drop 1 nine) }
 
 pub partition-told : (t : List ℕ) (partition : ℕ)
-    → toldPartition (partitionRefusal t partition) (partUnless (partitionRefusal t partition) 9 (partitionPart t partition))
+    → (let refusal = partitionRefusal t partition in
+    toldPartition refusal (partUnless refusal 9 (partitionPart t partition)))
     ≡ cPartition t partition
 partition-told t partition = go (eqb (partitionRefusal t partition) 0)
   where
     part : List ℕ
     part = partitionPart t partition
+
     go : (ok : Bool) → toldPartition (partitionRefusal t partition) (cond ok part (replicate 9 0))
         ≡ record {
           number = partitionRefusal t partition;
@@ -80,6 +85,7 @@ system-told t = go (eqb (tableRefusal t) 0)
   where
     part : List ℕ
     part = systemPart t
+
     go : (ok : Bool) → toldSystem (tableRefusal t) (cond ok part (replicate 12 0))
         ≡ record {
           number = tableRefusal t;
@@ -95,10 +101,12 @@ pub zone-sized : (t : List ℕ) (zone : ℕ) → zone < 256 → tableRefusal t �
 zone-sized t zone h z =
     length-take-le 6 (drop (zonePlace zone + 1) t) (omega (arith, length-drop (zonePlace zone + 1) t, asked-whole t z))
 
-pub partition-sized : (t : List ℕ) (partition : ℕ) → partitionRefusal t partition ≡ 0 → length (partitionPart t partition) ≡ 9
+pub partition-sized : (t : List ℕ) (partition : ℕ) → partitionRefusal t partition ≡ 0
+    → length (partitionPart t partition) ≡ 9
 partition-sized t partition z =
     let h = asked-partition t partition z in
-    length-take-le 9 (drop (partitionPlace partition) t) (omega (arith, length-drop (partitionPlace partition) t, h .0, h .1))
+    let rest = drop (partitionPlace partition) t in
+    length-take-le 9 rest (omega (arith, length-drop (partitionPlace partition) t, h .0, h .1))
 
 pub system-sized : (t : List ℕ) → tableRefusal t ≡ 0 → length (systemPart t) ≡ 12
 system-sized t z =

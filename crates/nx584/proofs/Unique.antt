@@ -1,4 +1,5 @@
--- Each exported function's contract settles its answer, and every byte of what it was lent: two answers that meet the predicate that the contract
+-- Each exported function's contract settles its answer, and every byte of what it was lent: two answers that meet the
+-- predicate that the contract
 -- generates are equal. Assumes nothing.
 use mathlib.Core.Path.{_≡_, sym, _∙_}
 use borrow.Fn.Kinds.{Dens, endedOf, resT}
@@ -30,53 +31,65 @@ use Rattle.nx584.proofs.nx584_system.Reads as system
 use Rattle.nx584.proofs.nx584_version.Kinds as version-kinds
 use Rattle.nx584.proofs.nx584_version.Reads as version
 
-pub nx584-fresh-unique : (κs : Lfts 0) (a : Dens κs fresh-kinds.ps) (e : AtExit (endedOf 0 fresh-kinds.ps fresh-kinds.r) κs)
+pub nx584-fresh-unique : (κs : Lfts 0) (a : Dens κs fresh-kinds.ps)
+    (e : AtExit (endedOf 0 fresh-kinds.ps fresh-kinds.r) κs)
     (x y : resT fresh-kinds.r κs .Denot) → fresh.Post κs a x e → fresh.Post κs a y e → x ≡ y
 nx584-fresh-unique κs a e x y p q = p ∙ sym q
 
-pub nx584-read-unique : (κs : Lfts 1) (a : Dens κs read-kinds.ps) (e : AtExit (endedOf 1 read-kinds.ps read-kinds.r) κs)
+pub nx584-read-unique : (κs : Lfts 1) (a : Dens κs read-kinds.ps)
+    (e : AtExit (endedOf 1 read-kinds.ps read-kinds.r) κs)
     (x y : resT read-kinds.r κs .Denot) → read.Post κs a x e → read.Post κs a y e → x ≡ y
 nx584-read-unique κs a e x y p q = p ∙ sym q
 
-pub nx584-step-unique : (κs : Lfts 0) (a : Dens κs step-kinds.ps) (e : AtExit (endedOf 0 step-kinds.ps step-kinds.r) κs)
+pub nx584-step-unique : (κs : Lfts 0) (a : Dens κs step-kinds.ps)
+    (e : AtExit (endedOf 0 step-kinds.ps step-kinds.r) κs)
     (x y : resT step-kinds.r κs .Denot) → step.Post κs a x e → step.Post κs a y e → x ≡ y
 nx584-step-unique κs a e x y p q = p ∙ sym q
 
-pub nx584-write-unique : (κs : Lfts 2) (a : Dens κs write-kinds.ps) (e e′ : AtExit (endedOf 2 write-kinds.ps write-kinds.r) κs)
+pub nx584-write-unique : (κs : Lfts 2) (a : Dens κs write-kinds.ps)
+    (e e′ : AtExit (endedOf 2 write-kinds.ps write-kinds.r) κs)
     (x y : resT write-kinds.r κs .Denot) → write.Post κs a x e → write.Post κs a y e′
     → (x ≡ y) × (now (e .1 .1 .0) ≡ now (e′ .1 .1 .0))
 nx584-write-unique κs a e e′ x y p q = (p .says ∙ sym (q .says), p .leaves ∙ sym (q .leaves))
 
-pub nx584-reply-unique : (κs : Lfts 0) (a : Dens κs reply-kinds.ps) (e : AtExit (endedOf 0 reply-kinds.ps reply-kinds.r) κs)
+pub nx584-reply-unique : (κs : Lfts 0) (a : Dens κs reply-kinds.ps)
+    (e : AtExit (endedOf 0 reply-kinds.ps reply-kinds.r) κs)
     (x y : resT reply-kinds.r κs .Denot) → reply.Post κs a x e → reply.Post κs a y e → x ≡ y
 nx584-reply-unique κs a e x y p q = p ∙ sym q
 
-pub nx584-apply-unique : (κs : Lfts 2) (a : Dens κs apply-kinds.ps) (e e′ : AtExit (endedOf 2 apply-kinds.ps apply-kinds.r) κs)
+pub nx584-apply-unique : (κs : Lfts 2) (a : Dens κs apply-kinds.ps)
+    (e e′ : AtExit (endedOf 2 apply-kinds.ps apply-kinds.r) κs)
     (x y : resT apply-kinds.r κs .Denot) → apply.Post κs a x e → apply.Post κs a y e′
     → (x ≡ y) × (now (e .0) ≡ now (e′ .0))
 nx584-apply-unique κs a e e′ x y p q = (p .says ∙ sym (q .says), p .leaves ∙ sym (q .leaves))
 
-pub nx584-view-unique : (κs : Lfts 1) (a : Dens κs view-kinds.ps) (e : AtExit (endedOf 1 view-kinds.ps view-kinds.r) κs)
+pub nx584-view-unique : (κs : Lfts 1) (a : Dens κs view-kinds.ps)
+    (e : AtExit (endedOf 1 view-kinds.ps view-kinds.r) κs)
     (x y : resT view-kinds.r κs .Denot) → view.Post κs a x e → view.Post κs a y e → x ≡ y
 nx584-view-unique κs a e x y p q = p ∙ sym q
 
-pub nx584-hear-unique : (κs : Lfts 2) (a : Dens κs hear-kinds.ps) (e e′ : AtExit (endedOf 2 hear-kinds.ps hear-kinds.r) κs)
+pub nx584-hear-unique : (κs : Lfts 2) (a : Dens κs hear-kinds.ps)
+    (e e′ : AtExit (endedOf 2 hear-kinds.ps hear-kinds.r) κs)
     (x y : resT hear-kinds.r κs .Denot) → hear.Post κs a x e → hear.Post κs a y e′
     → (x ≡ y) × (now (e .1 .0) ≡ now (e′ .1 .0))
 nx584-hear-unique κs a e e′ x y p q = (p .says ∙ sym (q .says), p .leaves ∙ sym (q .leaves))
 
-pub nx584-zone-unique : (κs : Lfts 1) (a : Dens κs zone-kinds.ps) (e : AtExit (endedOf 1 zone-kinds.ps zone-kinds.r) κs)
+pub nx584-zone-unique : (κs : Lfts 1) (a : Dens κs zone-kinds.ps)
+    (e : AtExit (endedOf 1 zone-kinds.ps zone-kinds.r) κs)
     (x y : resT zone-kinds.r κs .Denot) → zone.Post κs a x e → zone.Post κs a y e → x ≡ y
 nx584-zone-unique κs a e x y p q = p ∙ sym q
 
-pub nx584-partition-unique : (κs : Lfts 1) (a : Dens κs partition-kinds.ps) (e : AtExit (endedOf 1 partition-kinds.ps partition-kinds.r) κs)
+pub nx584-partition-unique : (κs : Lfts 1) (a : Dens κs partition-kinds.ps)
+    (e : AtExit (endedOf 1 partition-kinds.ps partition-kinds.r) κs)
     (x y : resT partition-kinds.r κs .Denot) → partition.Post κs a x e → partition.Post κs a y e → x ≡ y
 nx584-partition-unique κs a e x y p q = p ∙ sym q
 
-pub nx584-system-unique : (κs : Lfts 1) (a : Dens κs system-kinds.ps) (e : AtExit (endedOf 1 system-kinds.ps system-kinds.r) κs)
+pub nx584-system-unique : (κs : Lfts 1) (a : Dens κs system-kinds.ps)
+    (e : AtExit (endedOf 1 system-kinds.ps system-kinds.r) κs)
     (x y : resT system-kinds.r κs .Denot) → system.Post κs a x e → system.Post κs a y e → x ≡ y
 nx584-system-unique κs a e x y p q = p ∙ sym q
 
-pub nx584-version-unique : (κs : Lfts 0) (a : Dens κs version-kinds.ps) (e : AtExit (endedOf 0 version-kinds.ps version-kinds.r) κs)
+pub nx584-version-unique : (κs : Lfts 0) (a : Dens κs version-kinds.ps)
+    (e : AtExit (endedOf 0 version-kinds.ps version-kinds.r) κs)
     (x y : resT version-kinds.r κs .Denot) → version.Post κs a x e → version.Post κs a y e → x ≡ y
 nx584-version-unique κs a e x y p q = p ∙ sym q

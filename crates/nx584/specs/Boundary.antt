@@ -1,4 +1,5 @@
--- What C hands in and gets back, in numbers: include/nx584.h. No case of an enum crosses, so each is a number here. Assumes nothing.
+-- What C hands in and gets back, in numbers: include/nx584.h. No case of an enum crosses, so each is a number here.
+-- Assumes nothing.
 use Prim.Native.Nat.{ℕ}
 use mathlib.Core.Path.{_≡_}
 use mathlib.Core.Bool.{Bool, true, cond, _&&_}
@@ -79,11 +80,13 @@ cReader r = record {
   bytes = r .bytes;
 }
 
--- a mode above 3 is unsound, and so is mode 3 with a digit above 15, in both framings; the rest is document 01's soundness
+-- a mode above 3 is unsound, and so is mode 3 with a digit above 15, in both framings; the rest is document 01's
+-- soundness
 unfoldable pub soundC : CReader → Bool
 soundC c = leb (c .mode) 3 && (cond (eqb (c .mode) 3) (leb (c .digit) 15) true && soundReader (readerFor c))
 
--- the numbers that a call answers: framing 0 or 1, mode 2 in binary alone, mode 3 in ASCII alone, and a digit in mode 3 alone
+-- the numbers that a call answers: framing 0 or 1, mode 2 in binary alone, mode 3 in ASCII alone, and a digit in mode 3
+-- alone
 abbrev pub settled : CReader → Bool
 settled c =
     leb (c .framing) 1
@@ -183,7 +186,8 @@ abbrev pub cWritten : Written → CWritten
 cWritten w = record { number = w .number; length = w .length }
 
 -- what `nx584_write` promises: its answer, and every byte of the buffer
-pub record CWrote (m : List ℕ) (framing : ℕ) (out : List ℕ) (place : ℕ) (answer : CWritten) (after : List ℕ) : Type 0 where
+pub record CWrote (m : List ℕ) (framing : ℕ) (out : List ℕ) (place : ℕ) (answer : CWritten) (after : List ℕ)
+    : Type 0 where
   pub says : answer ≡ cWritten (writtenOf m (framingFor framing) out place)
   pub leaves : after ≡ afterWrite m (framingFor framing) out place
 

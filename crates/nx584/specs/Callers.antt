@@ -1,4 +1,5 @@
--- Callers of `nx584_read` and `nx584_hear`, for demand 3: over what the calls answer in C's numbers, and nothing else. A verdict of 255 hands out
+-- Callers of `nx584_read` and `nx584_hear`, for demand 3: over what the calls answer in C's numbers, and nothing else.
+-- A verdict of 255 hands out
 -- nothing. Assumes nothing.
 use Prim.Native.Nat.{ℕ, zero, suc, _+_}
 use mathlib.Core.Path.{_≡_}
@@ -34,7 +35,8 @@ cFresh framing = cReader (freshReader (framingFor framing))
 
 -- ---- callers of `nx584_read`
 
--- what n calls hand out, or fewer where the reads are used up; what a call left unused is handed in before the next read
+-- what n calls hand out, or fewer where the reads are used up; what a call left unused is handed in before the next
+-- read
 unfoldable pub cCallsOf : ℕ → CReader → List (List ℕ) → List Handed
 cCallsOf zero c reads = []
 cCallsOf (suc n) c [] = []
@@ -60,7 +62,8 @@ cHearingsOf zero c t reads = noCall t
 cHearingsOf (suc n) c t [] = noCall t
 cHearingsOf (suc n) c t (bs ∷ reads) =
     let a = cHearing (cHeard c t bs) in
-    alsoHeard (hearingHands a) (a .reply) (cHearingsOf n (a .reader) (cLeft c t bs) (handedBefore (drop (a .used) bs) reads))
+    let left = handedBefore (drop (a .used) bs) reads in
+    alsoHeard (hearingHands a) (a .reply) (cHearingsOf n (a .reader) (cLeft c t bs) left)
 
 unfoldable pub cHearAll : CReader → List ℕ → List (List ℕ) → Heard
 cHearAll c t reads = cHearingsOf (length (joined reads) + length reads) c t reads
@@ -68,5 +71,6 @@ cHearAll c t reads = cHearingsOf (length (joined reads) + length reads) c t read
 pub data CHearings : CReader → List ℕ → List (List ℕ) → Heard → Type 0 where
   done : {c : CReader} {t : List ℕ} → CHearings c t [] (noCall t)
   hear : {c : CReader} {t bs after : List ℕ} {reads again : List (List ℕ)} {later : Heard} {a : CHearing}
-      → CHears c t bs a after → joined again ≡ drop (a .used) bs ++ joined reads → CHearings (a .reader) after again later
+      → CHears c t bs a after → joined again ≡ drop (a .used) bs ++ joined reads
+      → CHearings (a .reader) after again later
       → CHearings c t (bs ∷ reads) (alsoHeard (hearingHands a) (a .reply) later)

@@ -1,4 +1,5 @@
--- What C gets of a table's records: include/nx584.h. Places and refusals are those of document 01's table. Assumes nothing.
+-- What C gets of a table's records: include/nx584.h. Places and refusals are those of document 01's table. Assumes
+-- nothing.
 use Prim.Native.Nat.{ℕ}
 use mathlib.Core.Bool.{cond}
 use mathlib.Core.List.{List}

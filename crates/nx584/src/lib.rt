@@ -24,6 +24,9 @@ ghost use Rattle.reader.specs.Read.{freshReader};
 ghost use Rattle.nx584.specs.Records.{cZone, cPartition, cSystem};
 ghost use Rattle.nx584.specs.Boundary.{framingFor, framingNumber, modeNumber, digitNumber, pendingFor, readerFor, cReader, soundC, lengthSaid, numbersSaid, padded, cRefused, cReading, withReply, cRead, CHears, CWrote, cGroup, cOverview};
 
+// NX584_VERSION: of the header that this library goes with.
+const VERSION: u32 = 1;
+
 // NX584_LONGEST: the most bytes of a message.
 const LONGEST: usize = standard::LONGEST;
 
@@ -253,7 +256,8 @@ fn in_array(message: &[u8]) -> [u8; LONGEST]
 }
 
 // Document 01's soundness, after which a mode that the framing does not have reads as mode 1.
-fn sound_c(c: CReader) -> bool
+fn sound_c(c: CReader, reader: Reader) -> bool
+    requires { ⌜ reader ≡ readerFor c ⌝ }
     ensures { λ r. ⌜ r ≡ soundC c ⌝ }
 {
     if 3 < c.mode {
@@ -264,7 +268,6 @@ fn sound_c(c: CReader) -> bool
             return false;
         }
     }
-    let reader = reader_for(c);
     reader.sound()
 }
 
@@ -339,20 +342,6 @@ fn store(table: &mut [u8], reading: CReading)
     }
 }
 
-fn c_groups(groups: [Group; 16]) -> [CGroup; 16]
-    ensures { λ r. ⌜ r ≡ map cGroup (map groupValues groups) ⌝ }
-{
-    let first = groups[0];
-    let mut lines = [c_group(first); 16];
-    let mut i = 0;
-    while i < 16 {
-        let group = groups[i];
-        lines[i] = c_group(group);
-        i += 1;
-    }
-    lines
-}
-
 // A reader that has read nothing.
 #[no_mangle]
 pub extern "C" fn nx584_fresh(framing: u8) -> CReader
@@ -366,10 +355,10 @@ pub extern "C" fn nx584_fresh(framing: u8) -> CReader
 pub extern "C" fn nx584_read(reader: CReader, bytes: &[u8]) -> CReading
     ensures { λ r. ⌜ r ≡ cReading (cRead reader (now (bytes .entry))) ⌝ }
 {
-    if !sound_c(reader) {
+    let start = reader_for(reader);
+    if !sound_c(reader, start) {
         return refused(reader, 12);
     }
-    let start = reader_for(reader);
     let mode = start.mode;
     let mut frame = start.bytes;
     let scanned = reader::scan(mode, start.held, &mut frame, bytes);
@@ -428,13 +417,28 @@ pub extern "C" fn nx584_apply(table: &mut [u8], message: &[u8]) -> u8
 pub extern "C" fn nx584_view(table: &[u8]) -> COverview
     ensures { λ r. ⌜ r ≡ cOverview (seenOf (now (table .entry))) ⌝ }
 {
-    let seen = overview::view(table);
-    let groups = seen.groups;
-    let site = seen.site;
+    let none = c_group(overview::with_share(0, 0));
+    let mut groups = [none; 16];
+    let first = table::zone_mark(table, 0);
+    if first.number != 0 {
+        return COverview {
+            number: first.number,
+            groups: groups,
+            site: none,
+        };
+    }
+    let mut heard: u16 = 0;
+    let mut faulted: u16 = 0;
+    for index in 0..16 {
+        let group = overview::group(table, index);
+        heard += group.heard;
+        faulted += group.faulted;
+        groups[index as usize] = c_group(group);
+    }
     COverview {
-        number: seen.number,
-        groups: c_groups(groups),
-        site: c_group(site),
+        number: 0,
+        groups: groups,
+        site: c_group(overview::with_share(heard, faulted)),
     }
 }
 
@@ -499,7 +503,7 @@ pub extern "C" fn nx584_system(table: &[u8]) -> CSystem
     let mut record = [0u8; 12];
     bytes::copy(part, &mut record);
     let mut bytes = [0u8; 11];
-    bytes::copy(&record[1..], &mut bytes);
+    bytes::copy(&record[1..12], &mut bytes);
     CSystem {
         number: number,
         mark: record[0],
@@ -507,10 +511,10 @@ pub extern "C" fn nx584_system(table: &[u8]) -> CSystem
     }
 }
 
-// NX584_VERSION of the header that this library was made with.
+// To compare with NX584_VERSION.
 #[no_mangle]
 pub extern "C" fn nx584_version() -> u32
     ensures { λ r. ⌜ r ≡ 1 ⌝ }
 {
-    1
+    VERSION
 }

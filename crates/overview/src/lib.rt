@@ -5,9 +5,11 @@ use standard::Overview;
 use standard::Share;
 ghost use mathlib.Core.Path.{_≡_};
 ghost use Prim.Native.Nat.{suc, _<_, min};
+ghost use mathlib.Core.Bool.{cond, _&&_};
+ghost use lib.Dec.{ltb};
 ghost use lib.ListN.{length};
 ghost use Rattle.standard.specs.Words.{bit};
-ghost use Rattle.standard.specs.Table.{tableBytes};
+ghost use Rattle.standard.specs.Table.{tableBytes, isTable};
 ghost use Rattle.standard.specs.Overview.{heardOf, faultedOf, shareOf, shareNumber, counted, seenOf, groupValues, overviewValues};
 
 // 1 where the zone of this mark is heard.
@@ -21,7 +23,7 @@ fn heard_one(mark: u8) -> u16
 fn faulted_one(mark: u8, short: u8) -> u16
     ensures { λ r. ⌜ r ≡ min (bit 0 mark) (bit 0 short) ⌝ }
 {
-    if mark % 2 == 1 { (short % 2) as u16 } else { 0 }
+    ((mark % 2) * (short % 2)) as u16
 }
 
 // f64 holds both counts exactly, so the division is what rounds, once.
@@ -35,7 +37,7 @@ fn share_of(heard: u16, faulted: u16) -> Share
 }
 
 // Counts, and the share that is made from them.
-fn with_share(heard: u16, faulted: u16) -> Group
+pub fn with_share(heard: u16, faulted: u16) -> Group
     ensures { λ r. ⌜ groupValues r ≡ counted heard faulted ⌝ }
 {
     let share = share_of(heard, faulted);
@@ -62,6 +64,19 @@ fn group_at(table: &[u8], index: u8) -> Group
         faulted += faulted_one(mark.value, short.value);
     }
     with_share(heard, faulted)
+}
+
+// Group index + 1 by itself: nothing is heard in a table of another length, nor above group 16.
+pub fn group(table: &[u8], index: u8) -> Group
+    ensures { λ r. ⌜ groupValues r ≡ cond (isTable (now (table .entry)) && ltb index 16) (counted (heardOf (now (table .entry)) (suc index)) (faultedOf (now (table .entry)) (suc index))) (counted 0 0) ⌝ }
+{
+    if table.len() != table::TABLE_BYTES {
+        return with_share(0, 0);
+    }
+    if 16 <= index {
+        return with_share(0, 0);
+    }
+    group_at(table, index)
 }
 
 // All sixteen groups and the site, or the number with which the table refuses every question.

@@ -10,7 +10,9 @@ share-number-requires c κs = search needs
 returns : tie.Need-returns
 returns c =
     let s = c .share-number .ensures in
-    ⊎-elim (λ w. rw (w .1, s, eq-eqb _ _ (w .0 .taken))) (λ w. rw (w .1, s, ne-eqb _ _ (w .0 .left))) (c .before .if1 .came)
+    ⊎-elim (λ w. rw (w .1, s, eq-eqb _ _ (w .0 .taken)))
+    (λ w. rw (w .1, s, ne-eqb _ _ (w .0 .left)))
+    (c .before .if1 .came)
 
 pub c-group-spec : {M : Type 1} → statement M
 c-group-spec = tie.close (tie.spec share-number-requires returns)

@@ -23,14 +23,17 @@ returns : tie.Need-returns
 unfolding replyOf
 returns c =
     let a = c .before .before .before .before .before .args in
+    let e = heard-refused (a .reader) (a .table .now) (a .bytes .now) (c .before .before .if1 .taken) in
     rw (c .with-reply .ensures, c .before .refused .ensures)
-    (hear-refused (a .reader) (a .table .now) (a .bytes .now) 11 (heard-refused (a .reader) (a .table .now) (a .bytes .now) (c .before .before .if1 .taken)) refl (λ e. omega arith))
+    (hear-refused (a .reader) (a .table .now) (a .bytes .now) 11 e refl (λ e. omega arith))
 
 nx584-read-requires : tie.Need-nx584-read-requires
 nx584-read-requires c κs = search needs
 
 store-requires : tie.Need-store-requires
-store-requires c κs = rw (c .before .nx584-read .ensures) (c-short (c .before .before .before .before .before .args .reader) (c .before .before .before .before .before .args .bytes .now))
+store-requires c κs =
+    let a = c .before .before .before .before .before .args in
+    rw (c .before .nx584-read .ensures) (c-short (a .reader) (a .bytes .now))
 
 nx584-reply-requires : tie.Need-nx584-reply-requires
 nx584-reply-requires c κs = search needs
@@ -45,10 +48,12 @@ returns-2 : tie.Need-returns-2
 returns-2 c =
     let args = c .before .before .before .before .before .before .before .before .before .before .args in
     let t = args .table .now in
-    let read = c .before .before .before .before .before .before .nx584-read .ensures in
+    let reading = c .before .before .before .before .before .before in
+    let read = reading .nx584-read .ensures in
     let a = cRead (args .reader) (args .bytes .now) in
-    let line = heard-c (args .reader) t (args .bytes .now) (c .before .before .before .before .before .before .before .if1 .left) in
-    let reply = c .before .nx584-reply .ensures ∙ ap (λ (x : CReading). replyOf (x .verdict) (x .«type_byte»)) read ∙ reply-said (a .said) in
+    let line = heard-c (args .reader) t (args .bytes .now) (reading .before .if1 .left) in
+    let reply = c .before .nx584-reply .ensures ∙ ap (λ (x : CReading). replyOf (x .verdict) (x .«type_byte»)) read
+    ∙ reply-said (a .said) in
     record {
       says = c .with-reply2 .ensures ∙ ap₂ withReply read reply ∙ sym (ap cHearing line);
       leaves =

@@ -20,7 +20,8 @@ filled c =
     let args = part .before .before .before .args in
     let t = args .table .now in
     let p = args .partition in
-    part-copied (partitionRefusal t p) 9 (partitionPart t p) _ (partition-sized t p) (part .partition-part .ensures .gives) (c .copy .ensures .1)
+    let given = part .partition-part .ensures .gives in
+    part-copied (partitionRefusal t p) 9 (partitionPart t p) _ (partition-sized t p) given (c .copy .ensures .1)
 
 partition-part-requires : tie.Need-partition-part-requires
 partition-part-requires c κs = search needs
@@ -34,7 +35,8 @@ copy-requires c κs =
     let s = part .before .before .before in
     let t = s .args .table .now in
     let p = s .args .partition in
-    part-fits (partitionRefusal t p) 9 (partitionPart t p) _ (partition-sized t p) (part .partition-part .ensures .gives)
+    let given = part .partition-part .ensures .gives in
+    part-fits (partitionRefusal t p) 9 (partitionPart t p) _ (partition-sized t p) given
 
 sub-copy : tie.Need-sub-copy
 sub-copy c = search needs
@@ -62,8 +64,9 @@ returns c =
     let copy = c .before .before .before .before .before .before in
     let nine = copy .copy .last .1 .0 in
     let size : length nine ≡ 9 = search needs in
-    let seven : length (take 7 (drop 1 nine)) ≡ 7 = length-take-le 7 (drop 1 nine) (omega (arith, length-drop 1 nine)) in
-    let bytes = copied-all (take 7 (drop 1 nine)) _ (omega (arith, seven)) (c .before .copy2 .ensures .1) in
+    let rest = drop 1 nine in
+    let seven : length (take 7 rest) ≡ 7 = length-take-le 7 rest (omega (arith, length-drop 1 nine)) in
+    let bytes = copied-all (take 7 rest) _ (omega (arith, seven)) (c .before .copy2 .ensures .1) in
     let args = copy .before .before .before .before .before .args in
     rw (copy .before .before .partition-part .ensures .says, bytes, filled copy)
     (partition-told (args .table .now) (args .partition))

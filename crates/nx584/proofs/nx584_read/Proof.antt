@@ -1,44 +1,56 @@
-use Prim.Native.Nat.{_+_, _≤_}
+use Prim.Native.Nat.{ℕ, _+_, _≤_}
 use native.Mathlib.Omega.{arith}
 use borrow.Author.Tests.{not-true, not-false}
 use mathlib.Core.Path.{_≡_, sym, ap, _∙_}
 use mathlib.Core.Bool.{true}
+use mathlib.Core.List.{List}
 use lib.ListN.{length, length-take}
+use Rattle.standard.specs.Messages.{longest}
 use Rattle.reader.specs.declared.Reader.{Reader}
 use Rattle.reader.specs.Read.{readOf, Reads}
+use Rattle.nx584.specs.declared.CReader.{CReader}
 use Rattle.nx584.specs.Boundary.{readerFor, cReader, cReading, lengthSaid, numbersSaid, soundC}
 use Rattle.nx584.proofs.InC.{c-sound, read-took, read-refused, took-fits, took-c, length-said, said-c}
 use borrow.Author.Needs.{needs}
 use Rattle.nx584.proofs.nx584_read.Statement.{statement}
 use Rattle.nx584.proofs.nx584_read.Tie as tie
 
--- the reader after the scan, and what the scan promises of it
+-- what was asked, the reader after the scan, and what the scan promises of it
+abbrev asked : tie.After-scan → CReader
+asked c = c .before .before .before .before .before .before .before .args .reader
+
+abbrev given : tie.After-scan → List ℕ
+given c = c .before .before .before .before .before .before .before .args .bytes .now
+
 abbrev after : tie.After-scan → Reader
 after c = record { mode = c .scan .result .mode; held = c .scan .result .held; bytes = c .scan .last .1 .1 .0 }
 
-sound : (c : tie.Else1) → soundC (c .before .before .before .args .reader) ≡ true
-sound c = sym (c .before .sound-c .ensures) ∙ not-false _ (c .if1 .left)
+sound : (c : tie.After-scan) → soundC (asked c) ≡ true
+sound c =
+    let passed = c .before .before .before in
+    sym (passed .before .sound-c .ensures) ∙ not-false _ (passed .if1 .left)
 
-told : (c : tie.After-scan) → Reads (readerFor (c .before .before .before .before .before .before .before .args .reader)) (c .before .before .before .before .before .before .before .args .bytes .now) (after c) (c .scan .result .used) (c .scan .result .said)
-told c = rw (c .before .before .before .reader-for .ensures) at (c .scan .ensures)
+told : (c : tie.After-scan)
+    → Reads (readerFor (asked c)) (given c) (after c) (c .scan .result .used) (c .scan .result .said)
+told c = rw (c .before .before .before .before .before .reader-for .ensures) at (c .scan .ensures)
 
-fits : (c : tie.After-scan) → (c .scan .result .held ≤ 65535) × (lengthSaid (c .scan .result .said) ≤ 18)
+fits : (c : tie.After-scan) → (c .scan .result .held ≤ 65535) × (lengthSaid (c .scan .result .said) ≤ longest)
 fits c =
-    let s = c .before .before .before .before .before .before .before in
-    took-fits (readerFor (s .args .reader)) (s .args .bytes .now) (after c) (c .scan .result .said) (c-sound (s .args .reader) (sound (c .before .before .before .before))) (told c .gives)
+    let r = readerFor (asked c) in
+    took-fits r (given c) (after c) (c .scan .result .said) (c-sound (asked c) (sound c)) (told c .gives)
 
-few : (c : tie.After-numbers) → c .numbers .result .length ≤ 18
+few : (c : tie.After-numbers) → c .numbers .result .length ≤ longest
 few c = rw (c .numbers .ensures, length-said (c .before .before .scan .result .said)) (fits (c .before .before) .1)
 
 sound-c-requires : tie.Need-sound-c-requires
-sound-c-requires c κs = search needs
+sound-c-requires c κs = c .reader-for .ensures
 
 refused-requires : tie.Need-refused-requires
 refused-requires c κs = search needs
 
 returns : tie.Need-returns
 returns c =
-    let start = c .before .before .before .before in
+    let start = c .before .before .before .before .before in
     let h = sym (c .before .before .sound-c .ensures) ∙ not-true _ (c .before .if1 .taken) in
     c .refused .ensures ∙ ap cReading (sym (read-refused (start .args .reader) (start .args .bytes .now) h))
 
@@ -81,27 +93,29 @@ took-requires c κs = fits (c .before .before .before .before .before .before) .
 returns-2 : tie.Need-returns-2
 returns-2 c =
     let scan = c .before .before .before .before .before .before .before in
-    let s = c .before .before .before .before .before .before .before .before .before .before .before .before .before .before in
     let r = after scan in
+    let a = readOf (readerFor (asked scan)) (given scan) in
+    let used = scan .scan .result .used in
     let said = scan .scan .result .said in
+    let bytes = scan .scan .last .1 .1 .0 in
     let n = c .before .before .before .before .before .numbers .ensures in
-    let size : length (scan .scan .last .1 .1 .0) ≡ 21 = search needs in
+    let size : length bytes ≡ longest + 3 = search needs in
     let h = fits scan .1 in
     let message = rw n at (c .before .in-array .ensures) in
     c .took .ensures ∙ rw n
-    (said-c (cReader r) (scan .scan .result .used) said (scan .scan .last .1 .1 .0) (c .before .in-array .result) (omega arith) message
+    (said-c (cReader r) used said bytes (c .before .in-array .result) (omega arith) message
     ∙ ap cReading
-    (took-c (readOf (readerFor (s .args .reader)) (s .args .bytes .now)) r (scan .scan .result .used) said (told scan .gives) (told scan .uses)
-    ∙ sym (read-took (s .args .reader) (s .args .bytes .now) (sound (c .before .before .before .before .before .before .before .before .before .before .before)))))
+    (took-c a r used said (told scan .gives) (told scan .uses)
+    ∙ sym (read-took (asked scan) (given scan) (sound scan))))
 
 pub nx584-read-spec : {M : Type 1} → statement M
 nx584-read-spec =
     tie.close
     (tie.spec
+    reader-for-requires
     sound-c-requires
     refused-requires
     returns
-    reader-for-requires
     slice-aggregate-scan
     scan-requires
     numbers-requires

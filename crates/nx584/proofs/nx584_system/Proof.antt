@@ -17,7 +17,8 @@ filled : (c : tie.After-copy)
 filled c =
     let part = c .before .before in
     let t = part .before .before .before .args .table .now in
-    part-copied (tableRefusal t) 12 (systemPart t) _ (system-sized t) (part .system-part .ensures .gives) (c .copy .ensures .1)
+    let given = part .system-part .ensures .gives in
+    part-copied (tableRefusal t) 12 (systemPart t) _ (system-sized t) given (c .copy .ensures .1)
 
 system-part-requires : tie.Need-system-part-requires
 system-part-requires c κs = search needs
@@ -56,7 +57,8 @@ returns c =
     let size : length twelve ≡ 12 = search needs in
     let rest : length (drop 1 twelve) ≡ 11 = omega (arith, length-drop 1 twelve) in
     let all = take-all 11 (drop 1 twelve) (omega arith) in
-    let bytes = copied-all (take 11 (drop 1 twelve)) _ (rw all (omega (arith, rest))) (c .before .copy2 .ensures .1) ∙ all in
+    let bytes = copied-all (take 11 (drop 1 twelve)) _ (rw all (omega (arith, rest))) (c .before .copy2 .ensures .1)
+    ∙ all in
     rw (copy .before .before .system-part .ensures .says, bytes, filled copy)
     (system-told (copy .before .before .before .before .before .args .table .now))
 

@@ -22,7 +22,8 @@ copy-requires c κs =
     let s = part .before .before .before .before .before in
     let t = s .args .table .now in
     let zone = s .args .zone in
-    part-fits (tableRefusal t) 6 (zonePart t zone) _ (zone-sized t zone (search needs)) (part .zone-part .ensures .gives)
+    let given = part .zone-part .ensures .gives in
+    part-fits (tableRefusal t) 6 (zonePart t zone) _ (zone-sized t zone (search needs)) given
 
 returns : tie.Need-returns
 returns c =
@@ -32,7 +33,9 @@ returns c =
     let t = s .args .table .now in
     let zone = s .args .zone in
     let mark = marks .zone-mark .ensures in
-    let bytes = part-copied (tableRefusal t) 6 (zonePart t zone) _ (zone-sized t zone (search needs)) (part .zone-part .ensures .gives) (c .before .copy .ensures .1) in
+    let sized = zone-sized t zone (search needs) in
+    let given = part .zone-part .ensures .gives in
+    let bytes = part-copied (tableRefusal t) 6 (zonePart t zone) _ sized given (c .before .copy .ensures .1) in
     rw (mark .says, mark .gives, part .before .before .zone-short .ensures .gives, bytes)
 
 pub nx584-zone-spec : {M : Type 1} → statement M

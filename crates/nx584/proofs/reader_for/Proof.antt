@@ -16,7 +16,9 @@ cast-t7 c = search needs
 returns : tie.Need-returns
 returns c =
     let f = c .before .before .before .before .framing-for .ensures in
-    ⊎-elim (λ w. rw (w .1, f, eq-eqb _ _ (w .0 .taken))) (λ w. rw (w .2, w .1 .ensures, f, ne-eqb _ _ (w .0 .left))) (c .before .if1 .came)
+    ⊎-elim (λ w. rw (w .1, f, eq-eqb _ _ (w .0 .taken)))
+    (λ w. rw (w .2, w .1 .ensures, f, ne-eqb _ _ (w .0 .left)))
+    (c .before .if1 .came)
 
 pub reader-for-spec : {M : Type 1} → statement M
 reader-for-spec = tie.close (tie.spec framing-for-requires pending-for-requires cast-t7 returns)

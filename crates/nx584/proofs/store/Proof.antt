@@ -30,7 +30,8 @@ same-length : tie.Need-same-length
 same-length c = search needs
 
 returns : tie.Need-returns
-returns c = rw (eq-eqb _ _ (c .before .before .before .before .before .if1 .taken)) (c .before .before .apply .ensures .leaves)
+returns c =
+    rw (eq-eqb _ _ (c .before .before .before .before .before .if1 .taken)) (c .before .before .apply .ensures .leaves)
 
 returns-2 : tie.Need-returns-2
 returns-2 c = rw (ne-eqb _ _ (c .if1 .left))
