@@ -16,9 +16,9 @@
  * emulator do the same:
  *
  *     rt staticlib nx584
- *     tests/x86 compile -std=c11 -O2 -Iinclude examples/host.c -o unit.o
- *     tests/x86 link unit unit.o target/staticlib/libnx584.a
- *     tests/x86 run unit --help
+ *     tests/x86 compile -std=c11 -O2 -Iinclude examples/host.c -o target/unit.o
+ *     tests/x86 link target/unit target/unit.o target/staticlib/libnx584.a
+ *     tests/x86 run target/unit --help
  *
  * Pointers are valid for their lengths, the buffers of one call do not overlap, and NULL is passed
  * only with length 0. Every other argument is taken: a call refuses, with a number, and never traps.

@@ -8,6 +8,7 @@ replies are those of the same bytes on standard input, uncut. Ends 'N passed, M 
 import fcntl
 import os
 import random
+import re
 import select
 import signal
 import struct
@@ -17,9 +18,19 @@ import tempfile
 import termios
 import time
 
-GUIDE = "stty -F {line} 9600 raw -echo cs8 -parenb -cstopb -crtscts clocal && cat {line} > {capture}"
 PATIENCE = 20  # seconds until something that should happen counts as missing
 FRAMINGS = {"binary": [], "ascii": ["--ascii"]}
+
+
+def guide_command():
+    """The guide's line that captures, for any line and file; None where it has not just one."""
+    guide = os.path.join(os.path.dirname(os.path.abspath(__file__)), "../docs/GUIDE.md")
+    with open(guide, encoding="utf-8") as text:
+        found = re.findall(r"^    (stty -F (\S+) .* && cat (\S+) > (\S+))$", text.read(), re.MULTILINE)
+    if len(found) != 1 or found[0][1] != found[0][2]:
+        return None
+    command, line, _, capture = found[0]
+    return command.replace(line, "{line}").replace(f"> {capture}", "> {capture}")
 
 
 # ---- bytes for a line, from document 01
@@ -38,6 +49,12 @@ def frame(framing, message):
         return b"\n" + summed(message).hex().upper().encode() + b"\r"
     stuffed = summed(message).replace(b"\x7d", b"\x7d\x5d").replace(b"\x7e", b"\x7d\x5e")
     return b"\x7e" + stuffed
+
+
+def are_replies(framing, data):
+    """Whether these are frames of the three replies and nothing else."""
+    frames = b"|".join(re.escape(frame(framing, bytes([reply]))) for reply in (0x1D, 0x1E, 0x1F))
+    return re.fullmatch(b"(%s)+" % frames, data) is not None
 
 
 def message(chance):
@@ -207,7 +224,8 @@ class Trials:
         line.hear()
         self.note(f"{framing}: cut anywhere, signals in between: the table of the uncut stream", self.hearing, status == 0,
                   read, ended == 0, host.table() == table, any(table))
-        self.note(f"{framing}: the replies of the uncut stream, and no echo", line.heard == replies, bool(replies))
+        self.note(f"{framing}: the replies of the uncut stream, in its framing, and no echo", line.heard == replies,
+                  are_replies(framing, replies))
         self.note(f"{framing}: the overview of the uncut stream at the end, and others before",
                   host.said().endswith(overview), host.said().count("site:") > 10)
         raw = [during[0], during[1], during[3]] == [0, 0, 0] and during[2] & ~0o10017 == termios.CS8 | termios.CREAD | termios.CLOCAL
@@ -324,10 +342,12 @@ class Trials:
             return file.read() == data and line.heard == b""
 
     def captures(self, home):
-        data = bytes(range(256)) + stream(self.chance, "binary", 20)
-        for how, wanted in ((GUIDE, True), ("cat {line} > {capture}", False)):
+        """The guide's command and, so that the trial is seen to tell them apart, a plain cat."""
+        data, guide = bytes(range(256)) + stream(self.chance, "binary", 20), guide_command()
+        self.note("docs/GUIDE.md has one command that captures", guide is not None)
+        for how, wanted in ((guide or "false", True), ("cat {line} > {capture}", False)):
             line = Line(os.path.join(home, "line"))
-            name = "the guide's command captures byte for byte" if wanted else "and without stty the bytes do not come through"
+            name = "it captures byte for byte" if wanted else "and without stty the bytes do not come through"
             self.note(name, self.captured(home, line, how, data) == wanted)
             line.close()
 
