@@ -1,13 +1,15 @@
 -- Document 01: "Given a read, the reader goes up to and including the first verdict's byte, or to the end, and says how many bytes it used."
 -- And what `step` and `read` promise. Assumes nothing.
-use Prim.Native.Nat.{ℕ, suc}
+use Prim.Native.Nat.{ℕ, suc, _+_}
 use mathlib.Core.Path.{_≡_}
 use mathlib.Core.Bool.{Bool, cond}
 use mathlib.Core.List.{List, [], _∷_, map}
+use lib.Dec.{eqb}
 use lib.ListN.{length, getD, take, replicate}
 use Rattle.standard.specs.declared.Framing.{Framing}
 use Rattle.standard.specs.declared.Said.{Said}
 use Rattle.standard.specs.Words.{laid}
+use Rattle.standard.specs.Messages.{longest}
 use Rattle.standard.specs.Judge.{Handed, handing, verdictFor, verdictsIn, handedIn}
 use Rattle.reader.specs.declared.Mode.the-variants.{Skipping}
 use Rattle.reader.specs.declared.Reader.{Reader}
@@ -41,7 +43,7 @@ soundReader r = soundWith (r .mode) (r .held) (getD (r .bytes) 0 0)
 
 -- a reader that has seen nothing
 abbrev pub freshReader : Framing → Reader
-freshReader f = record { mode = Skipping f; held = 0; bytes = replicate 21 0 }
+freshReader f = record { mode = Skipping f; held = 0; bytes = replicate (longest + 3) 0 }
 
 -- the reader after a read or a byte: the frame's bytes stand at the beginning of the array, and its other bytes stay
 abbrev pub readerAfter : Reader → State → List ℕ → Reader
@@ -79,3 +81,14 @@ pub record Reads (r : Reader) (bs : List ℕ) (reader : Reader) (used : ℕ) (sa
 -- `step` gives what a read of the one byte gives
 abbrev pub Steps : Reader → ℕ → Reader → Said → Type 0
 Steps r b reader said = Gives reader said (readOf r (b ∷ []))
+
+-- ---- with the frame's bytes in lent memory
+
+-- THE ANSWER of `scan`: an array that is not a reader's is answered as a state that is not sound
+unfoldable pub lentRead : Reader → List ℕ → Given
+lentRead r bs = cond (eqb (length (r .bytes)) (longest + 3)) (readOf r bs) (notSound r)
+
+-- `scan` answers with the reader, the verdict and the used bytes of `lentRead`
+pub record Lent (r : Reader) (bs : List ℕ) (reader : Reader) (used : ℕ) (said : Said) : Type 0 where
+  pub gives : Gives reader said (lentRead r bs)
+  pub uses : used ≡ lentRead r bs .used
