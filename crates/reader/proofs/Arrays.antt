@@ -3,20 +3,22 @@
 use Prim.Native.Nat.{ℕ, zero, suc, _+_, _-_, _≤_}
 use native.Mathlib.Nat.{zero-add}
 use native.Mathlib.Omega.{arith}
-use mathlib.Core.Path.{_≡_, refl, sym, ap, ap₂, _∙_}
+use mathlib.Core.Path.{_≡_, refl, sym, ap, ap₂, subst, _∙_}
 use mathlib.Core.Logic.{_⊎_, inl, inr}
 use mathlib.Core.Bool.{Bool, true, false}
 use mathlib.Core.List.{List, [], _∷_, _++_}
 use lib.ListN.{length, getD, take, drop, length-append, length-drop}
 use lib.Seq.{length-take-le, take-append-seam, drop-append-add, drop-drop}
+use borrow.Author.Tests.{eq-eqb, ne-eqb}
 use Rattle.standard.specs.declared.Framing.{Framing}
+use Rattle.standard.specs.declared.Said.{Said}
 use Rattle.standard.specs.Words.{laid}
 use Rattle.standard.specs.Messages.{longest}
 use Rattle.standard.specs.Judge.{Handed}
 use Rattle.reader.specs.declared.Mode.{Mode}
 use Rattle.reader.specs.declared.Reader.{Reader}
 use Rattle.reader.specs.Step.{State, soundWith, stepOf}
-use Rattle.reader.specs.Read.{Read, scanOf, stateOf, soundReader, freshReader, readerAfter, Given, notSound, readFrom, readOf}
+use Rattle.reader.specs.Read.{Read, scanOf, stateOf, soundReader, freshReader, readerAfter, Given, notSound, readFrom, readOf, Gives, Reads, lentRead, Lent}
 use Rattle.reader.proofs.Soundness.{Fits, reader-fits, fits-sound, sound-held}
 use Rattle.reader.proofs.Judging.{isOpen}
 use Rattle.reader.proofs.Kept.{Quiet, keeps-step, keeps-scan}
@@ -48,7 +50,7 @@ laid-over bytes a b h =
     ∙ ap (λ k. drop k bytes) (sym e))
     ∙ sym (laid-front bytes b)
 
-length-laid : (bytes kept : List ℕ) → length kept ≤ length bytes → length (laid bytes 0 kept) ≡ length bytes
+pub length-laid : (bytes kept : List ℕ) → length kept ≤ length bytes → length (laid bytes 0 kept) ≡ length bytes
 length-laid bytes kept h =
     ap length (laid-front bytes kept) ∙ omega (arith, length-append kept (drop (length kept) bytes), length-drop (length kept) bytes)
 
@@ -64,7 +66,7 @@ stateWith s held = record { mode = s .mode; held = held }
 state-after : (r : Reader) (next : State) (kept : List ℕ) → (next .held ≡ []) ⊎ (next .held ≡ kept) → stateOf (readerAfter r next kept) ≡ next
 state-after r next kept h = ap (stateWith next) (begin-held (r .bytes) (next .held) kept h)
 
-sound-with : (m : Mode) (bytes held kept : List ℕ) → (held ≡ []) ⊎ (held ≡ kept) → Fits m held
+pub sound-with : (m : Mode) (bytes held kept : List ℕ) → (held ≡ []) ⊎ (held ≡ kept) → Fits m held
     → soundWith m (length held) (getD (laid bytes 0 kept) 0 0) ≡ true
 sound-with m bytes held kept (inl e) k = rw e (fits-sound m [] (laid bytes 0 kept) (rw e at k))
 sound-with m bytes held kept (inr e) k = rw (e, laid-front bytes kept) (fits-sound m kept (drop (length kept) bytes) (rw e at k))
@@ -152,7 +154,7 @@ module _ (r : Reader) (h : soundReader r ≡ true) where
       by-stays (inr o) = laid-over (r .bytes) (next .held) kept (longer o)
 
   -- the read goes on from the reader after a byte that said nothing
-  again : (next : State) (bs : List ℕ) → Fits (next .mode) (next .held) → Quiet (stateOf r) next
+  pub again : (next : State) (bs : List ℕ) → Fits (next .mode) (next .held) → Quiet (stateOf r) next
       → readOf (readerAfter r next (next .held)) bs ≡ readFrom r (scanOf next bs)
   unfolding answerWith
   again next bs k q =
@@ -177,3 +179,22 @@ steps-by r b bs false h = rw (read-unsound r (b ∷ bs) h, read-unsound r (b ∷
 pub read-steps : (r : Reader) (b : ℕ) (bs : List ℕ)
     → readOf r (b ∷ bs) ≡ thenRead (readOf r (b ∷ []) .said) (readOf r (b ∷ [])) (readOf (readOf r (b ∷ []) .reader) bs)
 read-steps r b bs = steps-by r b bs (soundReader r) refl
+
+-- ---- the frame's bytes in lent memory
+
+-- where it is as long as a reader's array, that read
+pub lent-read : (r : Reader) (bs : List ℕ) → length (r .bytes) ≡ longest + 3 → lentRead r bs ≡ readOf r bs
+unfolding lentRead
+lent-read r bs e = rw (eq-eqb (length (r .bytes)) (longest + 3) e)
+
+pub lent-none : (r : Reader) (bs : List ℕ) → (length (r .bytes) ≡ longest + 3 → ⊥) → lentRead r bs ≡ notSound r
+unfolding lentRead
+lent-none r bs h = rw (ne-eqb (length (r .bytes)) (longest + 3) h)
+
+-- what `scan` promises of such an array is what `read` promises
+pub lent-is-read : (r : Reader) (bs : List ℕ) (reader : Reader) (used : ℕ) (said : Said) → length (r .bytes) ≡ longest + 3
+    → Lent r bs reader used said → Reads r bs reader used said
+lent-is-read r bs reader used said e w = record {
+  gives = subst (Gives reader said) (lent-read r bs e) (w .gives);
+  uses = w .uses ∙ ap (λ a. a .used) (lent-read r bs e);
+}

@@ -1,17 +1,18 @@
 -- The loop of `read`: what a decision does to the reader is the read of its byte, and the read goes on from there. Assumes nothing.
-use Prim.Native.Nat.{ℕ, zero, suc, _+_, _≤_, _<_}
+use Prim.Native.Nat.{ℕ, zero, suc, _+_, _-_, _≤_, _<_}
 use native.Mathlib.Nat.{zero-add, add-zero}
 use native.Mathlib.Numerals.{add-one}
 use native.Mathlib.Omega.{arith}
-use mathlib.Core.Path.{_≡_, refl, sym, ap, _∙_}
+use mathlib.Core.Path.{_≡_, refl, sym, ap, subst⁻¹, _∙_}
+use mathlib.Core.Logic.{_⊎_, inl, inr}
 use mathlib.Core.Bool.{Bool, true, false, cond}
 use mathlib.Core.List.{List, [], _∷_, _++_, map}
 use lib.Dec.{eqb}
-use lib.ListN.{length, getD, take, drop, set, length-append, take-append-drop, drop-of-length-le}
-use lib.Seq.{length-take-le, drop-cons, append-snoc, set-split, take-take}
+use lib.ListN.{length, getD, take, drop, set, length-append, length-take, length-drop, take-append-drop, drop-of-length-le}
+use lib.Seq.{length-take-le, drop-cons, drop-drop, append-snoc, set-split}
 use borrow.Author.Tests.{eqb-true, eqb-false}
 use Rattle.standard.specs.declared.Framing.{Framing}
-use Rattle.standard.specs.declared.Framing.the-variants.{Binary}
+use Rattle.standard.specs.declared.Framing.the-variants.{Binary, Ascii}
 use Rattle.standard.specs.declared.Sums.{Sums}
 use Rattle.standard.specs.declared.Verdict.{Verdict}
 use Rattle.standard.specs.declared.Said.{Said}
@@ -20,8 +21,15 @@ use Rattle.standard.specs.Words.{laid}
 use Rattle.standard.specs.Sums.{sumsOf}
 use Rattle.standard.specs.Messages.{longest, lengthOk}
 use Rattle.standard.specs.Framing.{startOf}
-use Rattle.standard.specs.Judge.{Handed, handing, verdictFor, verdictsIn}
+use Rattle.standard.specs.Judge.{Handed, handing, verdictFor, verdictsIn, handedIn}
 use Rattle.standard.specs.Stream.{upToStart}
+use Rattle.frames.specs.declared.Taken.{Taken}
+use Rattle.frames.specs.Plain.{plainOf, span, beyond, lengthOf, growth}
+use Rattle.frames.specs.Judging.{judgedFrame, judgedOf, saidOf}
+use Rattle.frames.specs.Parts.{Complete}
+use Rattle.frames.proofs.Plainly.{span-none, laid-none, Grew, grew, within}
+use Rattle.frames.proofs.Skips.{up-to-within}
+use Rattle.frames.proofs.Judges.{judged-whole}
 use Rattle.reader.specs.declared.Mode.{Mode}
 use Rattle.reader.specs.declared.Mode.the-variants.{Skipping, Open, Escape, Digit}
 use Rattle.reader.specs.declared.Outcome.{Outcome}
@@ -29,15 +37,15 @@ use Rattle.reader.specs.declared.Outcome.the-variants.{Nothing, Number, 
 use Rattle.reader.specs.declared.Decision.{Decision}
 use Rattle.reader.specs.declared.Reader.{Reader}
 use Rattle.reader.specs.Step.{Step, beyondLength, goes, stepOf}
-use Rattle.reader.specs.Read.{readOn, scanOf, stateOf, soundReader, Given, notSound, readFrom, readOf, Reads}
-use Rattle.reader.specs.Decide.{stepIn, judgedOf, keptBy, heldBy, saidBy, Bound, Done, Complete, skippedIn, allStand, Summed, Entire, EntireAt}
-use Rattle.reader.proofs.Soundness.{Few, reader-fits, sound-held}
+use Rattle.reader.specs.Read.{readOn, scanOf, stateOf, soundReader, readerAfter, Given, notSound, readFrom, readOf, Gives, Reads, lentRead, Lent}
+use Rattle.reader.specs.Decide.{stepIn, keptBy, heldBy, saidBy, Bound, Done, skippedIn, TakesIn}
+use Rattle.reader.proofs.Soundness.{Few, Fits, reader-fits, few-held, sound-held}
 use Rattle.reader.proofs.Frames.{length-snoc, by-test, whole-front}
-use Rattle.reader.proofs.Kept.{keeps-step}
-use Rattle.reader.proofs.Arrays.{laid-front, read-sound, read-unsound, sound-read, Whole, whole-read, read-none, thenRead, read-steps}
+use Rattle.reader.proofs.Kept.{Quiet, keeps-step}
+use Rattle.reader.proofs.Arrays.{laid-front, length-laid, sound-with, again, lent-read, lent-none, read-sound, read-unsound, sound-read, Whole, whole-read, read-none, thenRead, read-steps}
 use Rattle.reader.proofs.Handing.{handed-from-verdict}
 use Rattle.reader.proofs.CodeSteps.{all-held, no-start}
-use Rattle.reader.proofs.CodeWhole.{frameRead, start-run}
+use Rattle.reader.proofs.CodePlain.{usedMore, inFrame, plain-run}
 
 -- ---- the array
 
@@ -91,17 +99,28 @@ judged-front (L ∷ rest) more h = whole-front [] L rest more (omega arith)
 abbrev pub Left : Reader → List ℕ → ℕ → Reader → Type 0
 Left r bs i now = readOf r bs ≡ record { reader = readOf now (drop i bs) .reader; used = i + readOf now (drop i bs) .used; said = readOf now (drop i bs) .said }
 
--- the reader so far, and what is decided of the byte at hand
-pub record Turn (r : Reader) (bs : List ℕ) (i : ℕ) (now : Reader) (d : Decision) : Type 0 where
+-- the reader so far
+pub record SoFar (r : Reader) (bs : List ℕ) (i : ℕ) (now : Reader) : Type 0 where
+  pub within : i ≤ length bs
   pub sound : soundReader now ≡ true
   pub size : Whole now
   pub left : Left r bs i now
+
+-- and what is decided of the byte at hand
+pub record Turn (r : Reader) (bs : List ℕ) (i : ℕ) (now : Reader) (d : Decision) : Type 0 where
+  pub so-far : SoFar r bs i now
   pub inside : i < length bs
   pub done : Done d (take (now .held) (now .bytes)) (stepIn (now .mode) (getD bs i 0) (take (now .held) (now .bytes)))
 
 -- the array after it, and the reader
 abbrev pub storedBy : Decision → Reader → List ℕ
 storedBy d now = cond (d .keep) (set (now .bytes) (now .held) (d .byte)) (now .bytes)
+
+pub stored-kept : (d : Decision) (now : Reader) → d .keep ≡ true → set (now .bytes) (now .held) (d .byte) ≡ storedBy d now
+stored-kept d now e = rw e
+
+pub stored-same : (d : Decision) (now : Reader) → d .keep ≡ false → now .bytes ≡ storedBy d now
+stored-same d now e = rw e
 
 abbrev pub readerBy : Decision → Reader → Reader
 readerBy d now = record { mode = d .mode; held = d .held; bytes = storedBy d now }
@@ -119,17 +138,17 @@ module _ {r : Reader} {bs : List ℕ} {i : ℕ} {now : Reader} {d : Decision} (t
 
   few : now .held ≤ length (now .bytes)
   unfolding Whole
-  few = omega (arith, sound-held now (t .sound), t .size)
+  few = omega (arith, sound-held now (t .so-far .sound), t .so-far .size)
 
   -- there is room for a byte that is kept
   pub room : d .keep ≡ true → now .held < length (now .bytes)
   unfolding Whole
   room e =
       let s = stepOf (stateOf now) b in
-      let all : length (s .kept) ≤ longest + 3 = keeps-step (stateOf now) b .0 .few (reader-fits now (t .sound)) in
+      let all : length (s .kept) ≤ longest + 3 = keeps-step (stateOf now) b .0 .few (reader-fits now (t .so-far .sound)) in
       let more : s .kept ≡ take (now .held) (now .bytes) ++ (d .byte ∷ []) = rw e at (t .done .kept) in
       let n : length (take (now .held) (now .bytes)) ≡ now .held = length-take-le (now .held) (now .bytes) few in
-      omega (arith, ap length more, length-snoc (take (now .held) (now .bytes)) (d .byte), t .size)
+      omega (arith, ap length more, length-snoc (take (now .held) (now .bytes)) (d .byte), t .so-far .size)
 
   -- the frame's bytes begin the array
   begins : storedBy d now ≡ frame ++ drop (length frame) (now .bytes)
@@ -138,12 +157,12 @@ module _ {r : Reader} {bs : List ℕ} {i : ℕ} {now : Reader} {d : Decision} (t
   sums-held : d .outcome ≡ Judgement → getD frame 0 0 + 3 ≤ length frame
   sums-held e = rw e at (t .done .bound)
 
-  pub complete : d .outcome ≡ Judgement → Complete (storedBy d now)
+  complete : d .outcome ≡ Judgement → Complete (storedBy d now)
   complete e =
       let h = sums-held e in
       rw begins
       (complete-front frame (drop (length frame) (now .bytes))
-      (known-length (take (now .held) (now .bytes)) (beyondLength (now .mode)) (reader-fits now (t .sound) .0) (d .keep) (d .byte) h) h)
+      (known-length (take (now .held) (now .bytes)) (beyondLength (now .mode)) (reader-fits now (t .so-far .sound) .0) (d .keep) (d .byte) h) h)
 
   -- the answer to the one byte, by what it comes to
   by-outcome : (o : Outcome) (s : Step) → Bound o (d .keep) (d .held) frame
@@ -158,14 +177,14 @@ module _ {r : Reader} {bs : List ℕ} {i : ℕ} {now : Reader} {d : Decision} (t
   one-byte : readOf now (b ∷ []) ≡ record { reader = readerBy d now; used = 1; said = said }
   unfolding scanOf
   one-byte =
-      read-sound now (b ∷ []) (t .sound)
+      read-sound now (b ∷ []) (t .so-far .sound)
       ∙ by-outcome (d .outcome) (stepOf (stateOf now) b) (t .done .bound) (t .done .next) (t .done .said) (t .done .kept)
 
-  pub sound-after : soundReader (readerBy d now) ≡ true
-  sound-after = rw one-byte at (sound-read now (b ∷ []) (t .sound))
+  sound-after : soundReader (readerBy d now) ≡ true
+  sound-after = rw one-byte at (sound-read now (b ∷ []) (t .so-far .sound))
 
   pub whole-after : Whole (readerBy d now)
-  whole-after = rw one-byte at (whole-read now (b ∷ []) (t .size))
+  whole-after = rw one-byte at (whole-read now (b ∷ []) (t .so-far .size))
 
   -- the byte, and the read of those after it where it said nothing
   abbrev both : Given
@@ -174,13 +193,16 @@ module _ {r : Reader} {bs : List ℕ} {i : ℕ} {now : Reader} {d : Decision} (t
   with-byte : readOf r bs ≡ record { reader = both .reader; used = i + both .used; said = both .said }
   with-byte =
       let first : drop i bs ≡ b ∷ drop (i + 1) bs = drop-cons bs i 0 (t .inside) ∙ ap (λ k. b ∷ drop k bs) (sym (add-one i)) in
-      t .left ∙ rw (first, read-steps now b (drop (i + 1) bs), one-byte)
+      t .so-far .left ∙ rw (first, read-steps now b (drop (i + 1) bs), one-byte)
 
   -- it said nothing: the read goes on
-  pub left-on : d .outcome ≡ Nothing → Left r bs (i + 1) (readerBy d now)
-  left-on e =
-      let n : i + suc (readOf (readerBy d now) (drop (i + 1) bs) .used) ≡ i + 1 + readOf (readerBy d now) (drop (i + 1) bs) .used = omega arith in
-      with-byte ∙ rw (e, n)
+  pub goes-on : d .outcome ≡ Nothing → SoFar r bs (i + 1) (readerBy d now)
+  goes-on e = record { within = omega (arith, t .inside); sound = sound-after; size = whole-after; left = left-on e }
+    where
+      left-on : d .outcome ≡ Nothing → Left r bs (i + 1) (readerBy d now)
+      left-on e =
+          let n : i + suc (readOf (readerBy d now) (drop (i + 1) bs) .used) ≡ i + 1 + readOf (readerBy d now) (drop (i + 1) bs) .used = omega arith in
+          with-byte ∙ rw (e, n)
 
   -- it gave a verdict: the read ends
   verdict-here : (h : Handed) → said ≡ h ∷ [] → readOf r bs ≡ record { reader = readerBy d now; used = i + 1; said = h ∷ [] }
@@ -197,26 +219,25 @@ reads r bs a said e v =
       uses = ap (λ x. x .used) (sym e);
     }
 
-pub reads-unsound : (r : Reader) (bs : List ℕ) (v : Verdict) → soundReader r ≡ false → v ≡ verdictFor (handing 12 []) → Reads r bs r 0 (Gave v)
-reads-unsound r bs v h e = reads r bs (notSound r) (Gave v) (read-unsound r bs h) (ap (λ x. x ∷ []) e)
-
-pub reads-all : {r : Reader} {bs : List ℕ} {i : ℕ} {now : Reader} → soundReader now ≡ true → Whole now → Left r bs i now → length bs ≤ i
-    → Reads r bs now i Silent
-reads-all {r} {bs} {i} {now} sound size left h =
-    reads r bs (record { reader = now; used = i; said = [] }) Silent (left ∙ rw (drop-of-length-le bs h, read-none now size sound, add-zero i)) refl
+pub reads-all : {r : Reader} {bs : List ℕ} {i : ℕ} {now : Reader} → SoFar r bs i now → length bs ≤ i → Reads r bs now i Silent
+reads-all {r} {bs} {i} {now} t h =
+    reads r bs (record { reader = now; used = i; said = [] }) Silent
+    (t .left ∙ rw (drop-of-length-le bs h, read-none now (t .size) (t .sound), add-zero i)) refl
 
 pub reads-number : {r : Reader} {bs : List ℕ} {i : ℕ} {now : Reader} {d : Decision} → Turn r bs i now d → d .outcome ≡ Number
-    → (v : Verdict) → v ≡ verdictFor (handing (d .number) []) → Reads r bs (readerBy d now) (i + 1) (Gave v)
-reads-number {r} {bs} {i} {now} {d} t o v e =
+    → (said : Said) → said ≡ Gave (verdictFor (handing (d .number) [])) → Reads r bs (readerBy d now) (i + 1) said
+reads-number {r} {bs} {i} {now} {d} t o said e =
     let h = handing (d .number) [] in
-    reads r bs (record { reader = readerBy d now; used = i + 1; said = h ∷ [] }) (Gave v) (verdict-here t h (rw o)) (ap (λ x. x ∷ []) e)
+    reads r bs (record { reader = readerBy d now; used = i + 1; said = h ∷ [] }) said (verdict-here t h (rw o)) (ap verdictsIn e)
 
 pub reads-judged : {r : Reader} {bs : List ℕ} {i : ℕ} {now : Reader} {d : Decision} → Turn r bs i now d → d .outcome ≡ Judgement
-    → (v : Verdict) → v ≡ verdictFor (judgedOf (storedBy d now)) → Reads r bs (readerBy d now) (i + 1) (Gave v)
-reads-judged {r} {bs} {i} {now} {d} t o v e =
+    → (said : Said) → said ≡ saidOf (judgedFrame (storedBy d now)) → Reads r bs (readerBy d now) (i + 1) said
+reads-judged {r} {bs} {i} {now} {d} t o said e =
     let h = judgedOf (storedBy d now) in
-    let front : judgedOf (storedBy d now) ≡ judgedOf (frame t) = rw (begins t) (judged-front (frame t) (drop (length (frame t)) (now .bytes)) (sums-held t o)) in
-    reads r bs (record { reader = readerBy d now; used = i + 1; said = h ∷ [] }) (Gave v) (verdict-here t h (rw (o, front))) (ap (λ x. x ∷ []) e)
+    let more = drop (length (frame t)) (now .bytes) in
+    let front : judgedOf (storedBy d now) ≡ judgedOf (frame t) = rw (begins t) (judged-front (frame t) more (sums-held t o)) in
+    let verdict : said ≡ Gave (verdictFor h) = e ∙ ap saidOf (judged-whole (storedBy d now) (complete t o)) in
+    reads r bs (record { reader = readerBy d now; used = i + 1; said = h ∷ [] }) said (verdict-here t h (rw (o, front))) (ap verdictsIn verdict)
 
 -- ---- before the loop
 
@@ -243,7 +264,7 @@ module _ (r : Reader) (f : Framing) (m : r .mode ≡ Skipping f) (sound : soundR
       (λ e. left-all r (b ∷ bs)) (λ e. skip-one b bs (eqb-false b x e) ∙ rw (left-skipping bs, more))
 
 -- nothing is said of what is skipped, and it leaves the reader as it is
-pub left-skipped : (r : Reader) (bs : List ℕ) → soundReader r ≡ true → Left r bs (skippedIn (r .mode) bs) r
+left-skipped : (r : Reader) (bs : List ℕ) → soundReader r ≡ true → Left r bs (skippedIn (r .mode) bs) r
 left-skipped r bs sound = by-mode (r .mode) refl
   where
     by-mode : (m : Mode) → r .mode ≡ m → Left r bs (skippedIn m bs) r
@@ -252,50 +273,151 @@ left-skipped r bs sound = by-mode (r .mode) refl
     by-mode Escape e = left-all r bs
     by-mode (Digit d) e = left-all r bs
 
--- ---- a whole frame at once
+skipped-within : (m : Mode) (bs : List ℕ) → skippedIn m bs ≤ length bs
+skipped-within (Skipping f) bs = up-to-within (startOf f) bs
+skipped-within (Open f) bs = omega arith
+skipped-within Escape bs = omega arith
+skipped-within (Digit d) bs = omega arith
 
--- the byte after those that are skipped is a start
-start-there : (x : ℕ) (bs : List ℕ) → length (upToStart x bs) < length bs → getD bs (length (upToStart x bs)) 0 ≡ x
-start-there x [] h = absurd (omega arith)
-start-there x (b ∷ bs) h =
-    by-test (λ l. length l < suc (length bs) → getD (b ∷ bs) (length l) 0 ≡ x) (eqb b x) [] (b ∷ upToStart x bs)
-    (λ e k. eqb-true b x e) (λ e k. start-there x bs (omega arith)) h
+pub skipped-on : (r : Reader) (bs : List ℕ) (i : ℕ) → length (r .bytes) ≡ longest + 3 → soundReader r ≡ true → i ≡ skippedIn (r .mode) bs → SoFar r bs i r
+unfolding Whole
+skipped-on r bs i size sound e = rw e (record { within = skipped-within (r .mode) bs; sound = sound; size = size; left = left-skipped r bs sound })
 
--- a frame cut off the bytes that it begins
-entire-run : (held bytes : List ℕ) (n : ℕ) (sums : Sums) → Entire bytes n sums
-    → scanOf (record { mode = Skipping Binary; held = held }) (0x7E ∷ bytes) ≡ frameRead (take n bytes) (suc n)
-entire-run held [] n sums w = absurd (omega (arith, w .inside, w .size))
-entire-run held (L ∷ rest) n sums w =
-    let k = L + 2 in
-    let m : n ≡ suc k = omega (arith, w .size) in
-    let size : length (take k rest) ≡ k = length-take-le k rest (omega (arith, w .inside)) in
-    let plain : allStand (L ∷ take k rest) ≡ true = rw m at (w .plain) in
-    ap (λ l. scanOf (record { mode = Skipping Binary; held = held }) (0x7E ∷ L ∷ l)) (sym (take-append-drop k rest))
-    ∙ start-run held L (take k rest) (drop k rest) (w .known) plain size
-    ∙ rw (m, size)
+-- ---- plain bytes at once
 
--- it can be judged, and these are its sums
-pub entire-complete : (bytes : List ℕ) (n : ℕ) (sums : Sums) → Entire bytes n sums → Complete (take n bytes) × Summed (take n bytes) sums
-entire-complete [] n sums w = absurd (omega (arith, w .inside, w .size))
-entire-complete (L ∷ rest) n sums w =
-    let k = L + 2 in
-    let m : n ≡ suc k = omega (arith, w .size) in
-    let size : length (take k rest) ≡ k = length-take-le k rest (omega (arith, w .inside)) in
-    let front : take (L + 1) (L ∷ take k rest) ≡ take (L + 1) (L ∷ rest) = rw (add-one L, take-take L k rest (omega arith)) in
-    rw m (record { known = w .known; all = omega arith }, record { are = w .summed ∙ ap sumsOf (sym front) })
+laid-after : (bytes : List ℕ) (n : ℕ) (more : List ℕ) → n ≤ length bytes → laid bytes n more ≡ laid bytes 0 (take n bytes ++ more)
+laid-after bytes n more h =
+    let size : length (take n bytes ++ more) ≡ n + length more = length-append (take n bytes) more ∙ ap (λ k. k + length more) (length-take-le n bytes h) in
+    sym (laid-front bytes (take n bytes ++ more) ∙ rw size)
 
-pub reads-entire : (r : Reader) (bs : List ℕ) (i n : ℕ) (sums : Sums) → soundReader r ≡ true → i ≡ skippedIn (r .mode) bs
-    → EntireAt (r .mode) bs i n sums → (v : Verdict) → v ≡ verdictFor (judgedOf (take n (drop (i + 1) bs)))
-    → Reads r bs (record { mode = r .mode; held = 0; bytes = laid (r .bytes) 0 (take n (drop (i + 1) bs)) }) (i + 1 + n) (Gave v)
-reads-entire r bs i n sums sound e w v ev =
-    let part = take n (drop (i + 1) bs) in
-    let held = take (r .held) (r .bytes) in
-    let place : i ≡ length (upToStart 0x7E bs) = e ∙ ap (λ m. skippedIn m bs) (w .skipping) in
-    let here : getD bs i 0 ≡ 0x7E = ap (λ k. getD bs k 0) place ∙ start-there 0x7E bs (omega (arith, w .inside)) in
-    let first : drop i bs ≡ 0x7E ∷ drop (i + 1) bs = drop-cons bs i 0 (w .inside) ∙ rw (here, add-one i) in
-    let left : Left r bs i r = rw e (left-skipped r bs sound) in
-    let scan : scanOf (stateOf r) (drop i bs) ≡ frameRead part (suc n) =
-    ap (scanOf (stateOf r)) first ∙ rw (w .skipping) (entire-run held (drop (i + 1) bs) n sums (w .entire)) in
-    let used : i + suc n ≡ i + 1 + n = omega arith in
-    reads r bs (record { reader = record { mode = r .mode; held = 0; bytes = laid (r .bytes) 0 part }; used = i + 1 + n; said = judgedOf part ∷ [] }) (Gave v)
-    (left ∙ rw (read-sound r (drop i bs) sound, scan, used, w .skipping)) (ap (λ x. x ∷ []) ev)
+-- the reader after they are taken
+abbrev pub grownBy : Reader → List ℕ → Reader
+grownBy now more = record { mode = now .mode; held = now .held + length more; bytes = laid (now .bytes) (now .held) more }
+
+same-beyond : (f : Framing) → beyondLength (Open f) ≡ beyond f
+same-beyond Binary = refl
+same-beyond Ascii = refl
+
+take-again : (n : ℕ) (l : List ℕ) → take (length (take n l)) l ≡ take n l
+take-again zero l = refl
+take-again (suc n) [] = refl
+take-again (suc n) (x ∷ l) = ap (λ r. x ∷ r) (take-again n l)
+
+-- the bytes held and those that are taken are those of a frame of length L
+few-grown : (beyond L k : ℕ) (held plain : List ℕ) → lengthOk L ≡ true → getD (held ++ plain) 0 0 ≡ L
+    → length (held ++ take k plain) ≤ L + beyond → Few beyond (held ++ take k plain)
+few-grown beyond L k (b ∷ held) plain known e h = (rw e known, omega arith)
+few-grown beyond L zero [] plain known e h = tt
+few-grown beyond L (suc k) [] [] known e h = tt
+few-grown beyond L (suc k) [] (x ∷ plain) known e h = (rw e known, omega arith)
+
+held-few : (beyond L : ℕ) (held plain : List ℕ) → Few beyond held → getD (held ++ plain) 0 0 ≡ L → length held ≤ L + beyond
+held-few beyond L [] plain k e = omega arith
+held-few beyond L (b ∷ held) plain k e = omega (arith, k .1)
+
+module _ {r : Reader} {bs : List ℕ} {i : ℕ} {now : Reader} (t : SoFar r bs i now) (f : Framing) (m : now .mode ≡ Open f) where
+  abbrev rest : List ℕ
+  rest = drop i bs
+
+  abbrev held : List ℕ
+  held = take (now .held) (now .bytes)
+
+  there : now .held ≤ length (now .bytes)
+  unfolding Whole
+  there = omega (arith, sound-held now (t .sound), t .size)
+
+  in-frame : stateOf now ≡ inFrame f held
+  in-frame = ap (λ (x : Mode). record { mode = x; held = held }) m
+
+  -- some bytes more are held
+  module _ (more : List ℕ) (fits : Fits (Open f) (held ++ more)) where
+    same : grownBy now more ≡ readerAfter now (inFrame f (held ++ more)) (held ++ more)
+    same =
+        let size : length (held ++ more) ≡ now .held + length more =
+        length-append held more ∙ ap (λ n. n + length more) (length-take-le (now .held) (now .bytes) there) in
+        rw (m, laid-after (now .bytes) (now .held) more there, size)
+
+    size-on : Whole (readerAfter now (inFrame f (held ++ more)) (held ++ more))
+    unfolding Whole
+    size-on =
+        let few : length (held ++ more) ≤ length (now .bytes) = omega (arith, few-held (Open f) (held ++ more) fits, t .size) in
+        length-laid (now .bytes) (held ++ more) few ∙ t .size
+
+    -- n bytes in silence brought them
+    silent-on : (n : ℕ) → n ≤ length rest → scanOf (inFrame f held) rest ≡ usedMore n (scanOf (inFrame f (held ++ more)) (drop n rest))
+        → SoFar r bs (i + n) (grownBy now more)
+    silent-on n inside e =
+        let quiet : Quiet (stateOf now) (inFrame f (held ++ more)) =
+        record { stays = inr refl; open-on = λ o. (refl, omega (arith, length-append held more)) } in
+        let later = again now (t .sound) (inFrame f (held ++ more)) (drop n rest) fits quiet in
+        let first = read-sound now rest (t .sound) ∙ ap (λ s. readFrom now (scanOf s rest)) in-frame ∙ ap (readFrom now) e in
+        let used : (u : ℕ) → i + (n + u) ≡ i + n + u = λ u. omega arith in
+        rw same
+        (record {
+          within = omega (arith, length-drop i bs, t .within);
+          sound = sound-with (Open f) (now .bytes) (held ++ more) (held ++ more) (inr refl) fits;
+          size = size-on;
+          left = t .left ∙ rw (first, ← drop-drop n i bs, later, used (scanOf (inFrame f (held ++ more)) (drop n rest) .used));
+        })
+
+  -- those that an open frame takes
+  grown-on : SoFar r bs (i + span f (length (growth f (now .held) (now .bytes) rest))) (grownBy now (growth f (now .held) (now .bytes) rest))
+  grown-on = by-growth (grew f (now .held) (now .bytes) rest)
+    where
+      by-growth : (growth f (now .held) (now .bytes) rest ≡ []) ⊎ Grew f (now .held) (now .bytes) rest
+          → SoFar r bs (i + span f (length (growth f (now .held) (now .bytes) rest))) (grownBy now (growth f (now .held) (now .bytes) rest))
+      by-growth (inl e) = rw (e, ← laid-none (now .bytes) (now .held), span-none f, add-zero i, add-zero (now .held)) t
+      by-growth (inr w) =
+          let P = plainOf f rest in
+          let L = lengthOf (now .held) (now .bytes) P in
+          let most = L + beyond f - now .held in
+          let g = take most P in
+          let bound = rw (same-beyond f) at (rw m at (reader-fits now (t .sound)) .0) in
+          let few : length held ≤ L + beyond f = held-few (beyond f) L held P bound refl in
+          let size = length-take-le (now .held) (now .bytes) there in
+          let short = length-take most P in
+          let fits : Fits (Open f) (held ++ g) =
+          (rw (same-beyond f) (few-grown (beyond f) L most held P (w .known) refl (omega (arith, length-append held g))), refl) in
+          let run = plain-run f L (w .known) (length g) held rest P refl (omega arith) refl (omega arith) in
+          rw (w .is) (silent-on g fits (span f (length g)) (within f (length g) rest P refl (omega arith)) (rw (take-again most P) at run))
+
+-- what is taken leaves the whole read as it is
+pub takes-on : {r : Reader} {bs : List ℕ} {i : ℕ} {now : Reader} (taken : Taken) (after : List ℕ) → SoFar r bs i now
+    → TakesIn (now .mode) (now .held) (now .bytes) (drop i bs) taken after
+    → SoFar r bs (i + taken .used) (record { mode = now .mode; held = now .held + taken .count; bytes = after })
+takes-on {r} {bs} {i} {now} taken after t = by-mode (now .mode) refl
+  where
+    nothing : (taken ≡ record { count = 0; used = 0 }) × (after ≡ now .bytes)
+        → SoFar r bs (i + taken .used) (record { mode = now .mode; held = now .held + taken .count; bytes = after })
+    nothing w = rw (w .0, w .1, add-zero i, add-zero (now .held)) t
+
+    by-mode : (m : Mode) → now .mode ≡ m → TakesIn m (now .held) (now .bytes) (drop i bs) taken after
+        → SoFar r bs (i + taken .used) (record { mode = now .mode; held = now .held + taken .count; bytes = after })
+    by-mode (Skipping f) e w = nothing w
+    by-mode (Open f) e w = rw (w .used, w .count, w .lays) (grown-on t f e)
+    by-mode Escape e w = nothing w
+    by-mode (Digit d) e w = nothing w
+
+-- ---- with the frame's bytes in lent memory
+
+pub lent-reads : (r : Reader) (bs : List ℕ) (reader : Reader) (used : ℕ) (said : Said) → length (r .bytes) ≡ longest + 3 → Reads r bs reader used said
+    → Lent r bs reader used said
+lent-reads r bs reader used said e w = record {
+  gives = subst⁻¹ (Gives reader said) (lent-read r bs e) (w .gives);
+  uses = w .uses ∙ ap (λ a. a .used) (sym (lent-read r bs e));
+}
+
+-- a state that is not sound, or an array of another size, is handed back with 12
+refused : (r : Reader) (bs : List ℕ) (said : Said) → said ≡ Gave (verdictFor (handing 12 [])) → lentRead r bs ≡ notSound r → Lent r bs r 0 said
+refused r bs said e k = record {
+  gives = subst⁻¹ (Gives r said) k (record { next = refl; verdict = ap verdictsIn e; handed = ap (λ s. handedIn s (r .bytes)) e });
+  uses = ap (λ a. a .used) (sym k);
+}
+
+pub lent-other : (r : Reader) (bs : List ℕ) (said : Said) → said ≡ Gave (verdictFor (handing 12 [])) → (length (r .bytes) ≡ longest + 3 → ⊥)
+    → Lent r bs r 0 said
+lent-other r bs said e h = refused r bs said e (lent-none r bs h)
+
+pub lent-unsound : (r : Reader) (bs : List ℕ) (said : Said) → said ≡ Gave (verdictFor (handing 12 [])) → length (r .bytes) ≡ longest + 3
+    → soundReader r ≡ false → Lent r bs r 0 said
+lent-unsound r bs said e h k = refused r bs said e (lent-read r bs h ∙ read-unsound r bs k)

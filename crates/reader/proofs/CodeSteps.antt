@@ -14,10 +14,13 @@ use Rattle.standard.specs.declared.Framing.the-variants.{Binary, Ascii}
 use Rattle.standard.specs.Messages.{lengthOk}
 use Rattle.standard.specs.Framing.{startOf, valueOf}
 use Rattle.standard.specs.Judge.{handing, wholeOf}
+use Rattle.standard.proofs.Framings.{digit-value}
+use Rattle.frames.specs.Plain.{orNone, digitIn}
+use Rattle.frames.specs.Judging.{judgedOf}
 use Rattle.reader.specs.declared.Mode.{Mode}
 use Rattle.reader.specs.declared.Mode.the-variants.{Open}
 use Rattle.reader.specs.Step.{framingOf, goes, ends, takes, takesDigit, takesCharacter, goesOn, stepOf}
-use Rattle.reader.specs.Decide.{stepIn, opensIn, judgedOf, Entry}
+use Rattle.reader.specs.Decide.{stepIn, opensIn}
 use Rattle.reader.proofs.Frames.{length-snoc}
 
 -- all are held, where their number is
@@ -90,12 +93,18 @@ pub digit-due : (bytes : List ℕ) (L b : ℕ) → getD bytes 0 L ≡ L → (0 <
 digit-due [] L b e k = refl
 digit-due (x ∷ bytes) L b e k = rw (lt-leb (x + 2) (length bytes) (omega (arith, k (omega arith))))
 
--- ---- an entry of the table
+-- ---- a digit's value, or 16
 
-pub is-digit : (v : Option ℕ) (x : ℕ) → Entry v x → x < 16 → v ≡ some x
-is-digit none x e h = absurd (omega arith)
-is-digit (some d) x e h = ap some (sym (e .0))
+pub is-digit : (c x : ℕ) → x ≡ digitIn c → x < 16 → valueOf c ≡ some x
+is-digit c x e h = by-value (valueOf c) e
+  where
+    by-value : (v : Option ℕ) → x ≡ orNone v → v ≡ some x
+    by-value none k = absurd (omega arith)
+    by-value (some d) k = ap some (sym k)
 
-pub is-none : (v : Option ℕ) (x : ℕ) → Entry v x → 16 ≤ x → v ≡ none
-is-none none x e h = refl
-is-none (some d) x e h = absurd (omega arith)
+pub is-none : (c x : ℕ) → x ≡ digitIn c → 16 ≤ x → valueOf c ≡ none
+is-none c x e h = by-value (valueOf c) refl e
+  where
+    by-value : (v : Option ℕ) → valueOf c ≡ v → x ≡ orNone v → v ≡ none
+    by-value none k j = refl
+    by-value (some d) k j = absurd (omega (arith, digit-value c d k .small))

@@ -14,8 +14,6 @@ pub mod Demand3
 pub mod Used
 pub mod Unique
 pub mod CodeSteps
-pub mod CodeJudge
-pub mod CodeSkip
-pub mod CodeWhole
+pub mod CodePlain
 pub mod CodeLoop
 pub mod Short

@@ -1,26 +1,23 @@
 -- What the private functions of the code promise: a decision is made with no look at the array, and done to the bytes held it is the step.
 -- Assumes nothing.
-use Prim.Native.Nat.{ℕ, _+_, _≤_, _<_}
+use Prim.Native.Nat.{ℕ, _+_, _≤_}
 use mathlib.Core.Path.{_≡_}
-use mathlib.Core.Bool.{Bool, true, false, cond, _&&_, _||_}
-use mathlib.Core.Option.{Option, none, some}
+use mathlib.Core.Bool.{Bool, true, false, cond}
 use mathlib.Core.List.{List, [], _∷_, _++_}
-use lib.Dec.{eqb, ltb}
-use lib.ListN.{length, getD, take, drop}
+use lib.Dec.{eqb}
+use lib.ListN.{length, getD}
 use Rattle.standard.specs.declared.Framing.{Framing}
-use Rattle.standard.specs.declared.Framing.the-variants.{Binary}
-use Rattle.standard.specs.declared.Sums.{Sums}
-use Rattle.standard.specs.Sums.{sumsOf}
-use Rattle.standard.specs.Messages.{lengthOk, among}
-use Rattle.standard.specs.Framing.{startOf, valueOf}
-use Rattle.standard.specs.Judge.{Handed, handing, wholeOf}
+use Rattle.standard.specs.Framing.{startOf}
+use Rattle.standard.specs.Judge.{Handed, handing}
 use Rattle.standard.specs.Stream.{upToStart}
+use Rattle.frames.specs.declared.Taken.{Taken}
+use Rattle.frames.specs.Plain.{TakesPlain}
+use Rattle.frames.specs.Judging.{judgedOf}
 use Rattle.reader.specs.declared.Mode.{Mode}
 use Rattle.reader.specs.declared.Mode.the-variants.{Skipping, Open, Escape, Digit}
 use Rattle.reader.specs.declared.Outcome.{Outcome}
 use Rattle.reader.specs.declared.Outcome.the-variants.{Nothing, Number, Judgement}
 use Rattle.reader.specs.declared.Decision.{Decision}
-use Rattle.reader.specs.declared.Standing.{Standing}
 use Rattle.reader.specs.Step.{Step, ends, opens, stepOf}
 
 -- ---- steps, by the bytes held
@@ -36,10 +33,6 @@ opensIn mode held = opens (record { mode = mode; held = held })
 -- a verdict that hands out nothing, and the mode after it
 abbrev pub tells : Mode → ℕ → List ℕ → Step
 tells mode number held = record { next = record { mode = mode; held = [] }; said = handing number [] ∷ []; kept = held }
-
--- the judgement of a frame's recovered bytes, with its length byte first
-abbrev pub judgedOf : List ℕ → Handed
-judgedOf frame = wholeOf [] (getD frame 0 0) (drop 1 frame)
 
 -- ---- a decision, done to the bytes held
 
@@ -95,27 +88,6 @@ Decides n first d step = (held : List ℕ) → length held ≡ n → getD held 0
 abbrev pub Judges : Framing → Decision → (List ℕ → List ℕ) → Type 0
 Judges f d frame = (held : List ℕ) → getD (frame held) 0 0 + 3 ≤ length (frame held) → Done d held (ends f (judgedOf (frame held)) (frame held))
 
--- ---- a whole frame, and the digits
-
--- a frame's bytes that can be judged: a length that is read, and as many bytes as it asks
-pub record Complete (frame : List ℕ) : Type 0 where
-  pub known : lengthOk (getD frame 0 0) ≡ true
-  pub all : getD frame 0 0 + 3 ≤ length frame
-
--- the sums of its length byte and message
-pub record Summed (frame : List ℕ) (sums : Sums) : Type 0 where
-  pub are : sums ≡ sumsOf (take (getD frame 0 0 + 1) frame)
-
--- an entry of the table of digits: the digit's value, or 16 where there is none
-abbrev pub Entry : Option ℕ → ℕ → Type 0
-Entry none x = x ≡ 16
-Entry (some d) x = (x ≡ d) × (x < 16)
-
--- "Digits are looked up in a table of 256 entries"
-pub record Digits (table : List ℕ) : Type 0 where
-  pub sized : length table ≡ 256
-  pub entry : (b : ℕ) → b < 256 → Entry (valueOf b) (getD table b 0)
-
 -- ---- what is skipped
 
 -- how many bytes a read passes over before it decides on one: "everything up to the next start"
@@ -125,40 +97,11 @@ skippedIn (Open f) bytes = 0
 skippedIn Escape bytes = 0
 skippedIn (Digit d) bytes = 0
 
--- no start is among the first n bytes
-pub record Passed (start n : ℕ) (bytes : List ℕ) : Type 0 where
-  pub within : n ≤ length bytes
-  pub no-start : among start (take n bytes) ≡ false
+-- ---- plain bytes at once
 
--- ---- a whole frame at once
-
--- neither 7Dh nor 7Eh
-abbrev pub stands : ℕ → Bool
-stands b = ltb b 0x7D || ltb 0x7E b
-
-unfoldable pub allStand : List ℕ → Bool
-allStand [] = true
-allStand (b ∷ bs) = stands b && allStand bs
-
--- whether all of a part stand for themselves, and then its sums
-pub record Plainly (part : List ℕ) (p : Standing) : Type 0 where
-  pub all : p .all ≡ allStand part
-  pub summed : p .all ≡ true → p .sums ≡ sumsOf part
-
--- where a number is not 0
-abbrev pub IfAny : ℕ → Type 0 → Type 0
-IfAny n P = (n ≡ 0 → ⊥) → P
-
--- n bytes that are a frame with its sums, each standing for itself
-pub record Entire (bytes : List ℕ) (n : ℕ) (sums : Sums) : Type 0 where
-  pub known : lengthOk (getD bytes 0 0) ≡ true
-  pub size : n ≡ getD bytes 0 0 + 3
-  pub inside : n ≤ length bytes
-  pub plain : allStand (take n bytes) ≡ true
-  pub summed : sums ≡ sumsOf (take (getD bytes 0 0 + 1) bytes)
-
--- such a frame after the start at a place, between frames
-pub record EntireAt (mode : Mode) (bytes : List ℕ) (place n : ℕ) (sums : Sums) : Type 0 where
-  pub skipping : mode ≡ Skipping Binary
-  pub inside : place < length bytes
-  pub entire : Entire (drop (place + 1) bytes) n sums
+-- in an open frame those that it takes, and none in any other mode
+abbrev pub TakesIn : Mode → ℕ → List ℕ → List ℕ → Taken → List ℕ → Type 0
+TakesIn (Skipping f) n frame bytes taken after = (taken ≡ record { count = 0; used = 0 }) × (after ≡ frame)
+TakesIn (Open f) n frame bytes taken after = TakesPlain f n frame bytes taken after
+TakesIn Escape n frame bytes taken after = (taken ≡ record { count = 0; used = 0 }) × (after ≡ frame)
+TakesIn (Digit d) n frame bytes taken after = (taken ≡ record { count = 0; used = 0 }) × (after ≡ frame)

@@ -4,6 +4,7 @@ use Prim.Native.Nat.{ℕ, suc, _+_}
 use mathlib.Core.Path.{_≡_}
 use mathlib.Core.Bool.{Bool, cond}
 use mathlib.Core.List.{List, [], _∷_, map}
+use lib.Dec.{eqb}
 use lib.ListN.{length, getD, take, replicate}
 use Rattle.standard.specs.declared.Framing.{Framing}
 use Rattle.standard.specs.declared.Said.{Said}
@@ -80,3 +81,14 @@ pub record Reads (r : Reader) (bs : List ℕ) (reader : Reader) (used : ℕ) (sa
 -- `step` gives what a read of the one byte gives
 abbrev pub Steps : Reader → ℕ → Reader → Said → Type 0
 Steps r b reader said = Gives reader said (readOf r (b ∷ []))
+
+-- ---- with the frame's bytes in lent memory
+
+-- THE ANSWER of `scan`: an array that is not a reader's is answered as a state that is not sound
+unfoldable pub lentRead : Reader → List ℕ → Given
+lentRead r bs = cond (eqb (length (r .bytes)) (longest + 3)) (readOf r bs) (notSound r)
+
+-- `scan` answers with the reader, the verdict and the used bytes of `lentRead`
+pub record Lent (r : Reader) (bs : List ℕ) (reader : Reader) (used : ℕ) (said : Said) : Type 0 where
+  pub gives : Gives reader said (lentRead r bs)
+  pub uses : used ≡ lentRead r bs .used

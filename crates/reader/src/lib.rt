@@ -1,38 +1,22 @@
 // The reader: a byte goes in, the next reader and at most one verdict come out. It is a value; a
 // read goes up to and including the first verdict's byte, or to the end.
 ghost use mathlib.Core.Path.{_≡_};
-ghost use mathlib.Core.Bool.{true, false};
+ghost use mathlib.Core.Bool.{true};
 ghost use mathlib.Core.List.{[], _∷_, _++_};
 ghost use Prim.Native.Nat.{_+_, _≤_};
-ghost use lib.ListN.{length};
+ghost use lib.ListN.{length, getD};
 ghost use Rattle.standard.specs.declared.Framing.the-variants.{Binary, Ascii};
-ghost use Rattle.standard.specs.Messages.{longest, lengthOk, among};
-ghost use Rattle.standard.specs.Framing.{startOf};
-ghost use Rattle.standard.specs.Judge.{handing, verdictFor};
-ghost use Rattle.standard.specs.Stream.{upToStart};
+ghost use Rattle.standard.specs.Messages.{longest};
 ghost use Rattle.reader.specs.declared.Mode.the-variants.{Skipping, Open, Escape, Digit};
 ghost use Rattle.reader.specs.Step.{beyondLength, pendingOk, soundWith, goes, takes};
-ghost use Rattle.reader.specs.Read.{soundReader, freshReader, Reads, Steps};
-ghost use Rattle.standard.specs.Sums.{sumsOf};
-ghost use lib.Seq.{sets};
-ghost use Rattle.reader.specs.Decide.{stepIn, opensIn, tells, judgedOf, skippedIn, stands, Always, ForHeld, Decides, Judges, Complete, Digits, Passed, Plainly, Summed, IfAny, Entire, EntireAt};
-
-mod digits;
-
-use digits::DIGITS;
+ghost use Rattle.reader.specs.Read.{soundReader, freshReader, Reads, Steps, Lent};
+ghost use Rattle.reader.specs.Decide.{stepIn, opensIn, tells, skippedIn, Always, ForHeld, Decides, Judges, TakesIn};
+use frames::Taken;
 use standard::Framing;
 use standard::Said;
-use standard::Sums;
-use standard::Verdict;
-
-// "Read and written: 1 to 18".
-const LONGEST: u8 = 18;
 
 // The most recovered bytes: the length, the longest message and two sums.
-const MOST: usize = LONGEST as usize + 3;
-
-// So many bytes between frames are looked at together: as many as a vector register holds.
-const BLOCK: usize = 16;
+const MOST: usize = standard::LONGEST + 3;
 
 // Between frames, in a frame, after a 7Dh (binary), or with a high digit pending (ASCII).
 pub enum Mode {
@@ -90,23 +74,6 @@ struct Decision {
     held: usize,
     byte: u8,
     number: u8,
-}
-
-// "Start 7Eh", "Start 0Ah".
-fn start_of(framing: Framing) -> u8
-    ensures { λ r. ⌜ r ≡ startOf framing ⌝ }
-{
-    match framing {
-        Framing::Binary => 0x7E,
-        Framing::Ascii => 0x0A,
-    }
-}
-
-// The bounds of a length, for a frame and for a state.
-fn length_ok(n: u8) -> bool
-    ensures { λ r. ⌜ r ≡ lengthOk n ⌝ }
-{
-    1 <= n && n <= LONGEST
 }
 
 // ---- decisions
@@ -214,7 +181,7 @@ fn takes(framing: Framing, held: usize, first: u8, x: u8) -> Decision
     ensures { λ r. ⌜ Decides held first r (λ bytes. takes framing bytes x) ⌝ }
 {
     if held == 0 {
-        if length_ok(x) {
+        if frames::length_ok(x) {
             return holds(framing, held, x);
         }
         return says(Mode::Skipping(framing), 4);
@@ -235,7 +202,7 @@ fn takes(framing: Framing, held: usize, first: u8, x: u8) -> Decision
 fn skipping(framing: Framing, held: usize, b: u8) -> Decision
     ensures { λ r. ⌜ ForHeld held r (stepIn (Skipping framing) b) ⌝ }
 {
-    if b == start_of(framing) {
+    if b == standard::start_of(framing) {
         starts(framing)
     } else {
         goes(Mode::Skipping(framing), held)
@@ -268,8 +235,7 @@ fn escaped(held: usize, first: u8, b: u8) -> Decision
 }
 
 // A byte in an ASCII frame with no digit pending: the stop, where it is due, or a high digit.
-fn character(held: usize, first: u8, b: u8, digits: &[u8]) -> Decision
-    requires { ⌜ Digits (now digits) ⌝ }
+fn character(held: usize, first: u8, b: u8) -> Decision
     ensures { λ r. ⌜ Decides held first r (stepIn (Open Ascii) b) ⌝ }
 {
     if b == 0x0A {
@@ -283,7 +249,7 @@ fn character(held: usize, first: u8, b: u8, digits: &[u8]) -> Decision
             return says(Mode::Skipping(Framing::Ascii), 3);
         }
     }
-    let d = digits[b as usize];
+    let d = frames::digit(b);
     if d < 16 {
         goes(Mode::Digit(d), held)
     } else {
@@ -292,14 +258,14 @@ fn character(held: usize, first: u8, b: u8, digits: &[u8]) -> Decision
 }
 
 // "Every byte as two characters, high digit first."
-fn low_digit(high: u8, held: usize, first: u8, b: u8, digits: &[u8]) -> Decision
-    requires { ⌜ (held ≤ longest + 3) × (high ≤ 15) × Digits (now digits) ⌝ }
+fn low_digit(high: u8, held: usize, first: u8, b: u8) -> Decision
+    requires { ⌜ (held ≤ longest + 3) × (high ≤ 15) ⌝ }
     ensures { λ r. ⌜ Decides held first r (stepIn (Digit high) b) ⌝ }
 {
     if b == 0x0A {
         return opens(Mode::Digit(high));
     }
-    let d = digits[b as usize];
+    let d = frames::digit(b);
     if d < 16 {
         takes(Framing::Ascii, held, first, high * 16 + d)
     } else {
@@ -308,186 +274,18 @@ fn low_digit(high: u8, held: usize, first: u8, b: u8, digits: &[u8]) -> Decision
 }
 
 // One byte, for `step` and `read` alike.
-fn decide(mode: Mode, held: usize, first: u8, b: u8, digits: &[u8]) -> Decision
-    requires { ⌜ (held ≤ longest + 3) × (pendingOk mode ≡ true) × Digits (now digits) ⌝ }
+fn decide(mode: Mode, held: usize, first: u8, b: u8) -> Decision
+    requires { ⌜ (held ≤ longest + 3) × (pendingOk mode ≡ true) ⌝ }
     ensures { λ r. ⌜ Decides held first r (stepIn mode b) ⌝ }
 {
     match mode {
         Mode::Skipping(framing) => skipping(framing, held, b),
         Mode::Open(framing) => match framing {
             Framing::Binary => binary(held, first, b),
-            Framing::Ascii => character(held, first, b, digits),
+            Framing::Ascii => character(held, first, b),
         },
         Mode::Escape => escaped(held, first, b),
-        Mode::Digit(high) => low_digit(high, held, first, b, digits),
-    }
-}
-
-// ---- a whole frame
-
-// A verdict that carries nothing.
-fn plain(number: u8) -> Verdict
-    ensures { λ r. ⌜ r ≡ verdictFor (handing number []) ⌝ }
-{
-    Verdict {
-        number,
-        type_byte: 0,
-        length: 0,
-    }
-}
-
-// The frame that these bytes begin with, of which the sums are known. "At that byte the order is 3,
-// 5, 6, 7, 8": 3 needs no look at them, and was decided before.
-fn judge_with(frame: &[u8], sums: Sums) -> Verdict
-    requires { ⌜ Complete (now frame) ⌝ }
-    requires { ⌜ Summed (now frame) sums ⌝ }
-    ensures { λ r. ⌜ r ≡ verdictFor (judgedOf (now (frame .entry))) ⌝ }
-{
-    let length = frame[0];
-    let end = length as usize + 1;
-    if frame[end] != sums.one {
-        return plain(5);
-    }
-    if frame[end + 1] != sums.two {
-        return plain(5);
-    }
-    let number = messages::check(&frame[1..end]);
-    Verdict {
-        number,
-        type_byte: frame[1],
-        length: if number == 0 { length } else { 0 },
-    }
-}
-
-// The frame that these bytes begin with.
-fn judge(frame: &[u8]) -> Verdict
-    requires { ⌜ Complete (now frame) ⌝ }
-    ensures { λ r. ⌜ r ≡ verdictFor (judgedOf (now (frame .entry))) ⌝ }
-{
-    let end = frame[0] as usize + 1;
-    let sums = sums::sums_of(&frame[..end]);
-    judge_with(frame, sums)
-}
-
-// ---- a whole frame at once
-
-// The sums of some bytes, if each of them stands for itself.
-struct Standing {
-    all: bool,
-    sums: Sums,
-}
-
-// How many bytes a whole frame has after its start, and its sums; 0: it is read byte by byte.
-struct Found {
-    end: usize,
-    sums: Sums,
-}
-
-// Whether a byte of a binary frame stands for itself: neither 7Dh nor 7Eh.
-fn stands(b: u8) -> bool
-    ensures { λ r. ⌜ r ≡ stands b ⌝ }
-{
-    b < 0x7D || 0x7E < b
-}
-
-fn not_plain() -> Standing
-    ensures { λ r. ⌜ r .all ≡ false ⌝ }
-{
-    Standing {
-        all: false,
-        sums: Sums { one: 0, two: 0 },
-    }
-}
-
-fn plain_sums(part: &[u8]) -> Standing
-    ensures { λ r. ⌜ Plainly (now (part .entry)) r ⌝ }
-{
-    let mut one: u8 = 0;
-    let mut two: u8 = 0;
-    let mut i = 0;
-    while i < part.len() {
-        let b = part[i];
-        if !stands(b) {
-            return not_plain();
-        }
-        one = sums::add(one, b);
-        two = sums::add(two, one);
-        i += 1;
-    }
-    Standing {
-        all: true,
-        sums: Sums { one, two },
-    }
-}
-
-fn none() -> Found
-    ensures { λ r. ⌜ r .end ≡ 0 ⌝ }
-{
-    Found {
-        end: 0,
-        sums: Sums { one: 0, two: 0 },
-    }
-}
-
-// The frame that begins after a start, where all its bytes are there and none is escaped.
-fn whole(bytes: &[u8]) -> Found
-    ensures { λ r. ⌜ IfAny (r .end) (Entire (now (bytes .entry)) (r .end) (r .sums)) ⌝ }
-{
-    if bytes.len() < 4 {
-        return none();
-    }
-    let length = bytes[0];
-    if !length_ok(length) {
-        return none();
-    }
-    let end = length as usize + 1;
-    if bytes.len() < end + 2 {
-        return none();
-    }
-    let found = plain_sums(&bytes[..end]);
-    if !found.all {
-        return none();
-    }
-    if !stands(bytes[end]) {
-        return none();
-    }
-    if !stands(bytes[end + 1]) {
-        return none();
-    }
-    let sums = found.sums;
-    Found { end: end + 2, sums }
-}
-
-// The same in a read, with the next start at a place.
-fn entire(mode: Mode, bytes: &[u8], at: usize) -> Found
-    ensures { λ r. ⌜ IfAny (r .end) (EntireAt mode (now (bytes .entry)) at (r .end) (r .sums)) ⌝ }
-{
-    match mode {
-        Mode::Skipping(framing) => match framing {
-            Framing::Binary => {
-                if at < bytes.len() {
-                    let from = at + 1;
-                    return whole(&bytes[from..]);
-                }
-                none()
-            }
-            Framing::Ascii => none(),
-        },
-        Mode::Open(_) => none(),
-        Mode::Escape => none(),
-        Mode::Digit(_) => none(),
-    }
-}
-
-// Lays bytes over the beginning of the part that it is lent.
-fn lay(part: &mut [u8], bytes: &[u8])
-    requires { ⌜ length (now bytes) ≤ length (now part) ⌝ }
-    ensures { λ _. ⌜ now (part .exit) ≡ sets (now (part .entry)) 0 (now (bytes .entry)) ⌝ }
-{
-    let mut i = 0;
-    while i < bytes.len() {
-        part[i] = bytes[i];
-        i += 1;
+        Mode::Digit(high) => low_digit(high, held, first, b),
     }
 }
 
@@ -531,7 +329,7 @@ fn sound(mode: Mode, held: usize, first: u8) -> bool
     ensures { λ r. ⌜ r ≡ soundWith mode held first ⌝ }
 {
     if held != 0 {
-        if !length_ok(first) {
+        if !frames::length_ok(first) {
             return false;
         }
         if first as usize + (beyond_length(mode) as usize) < held {
@@ -541,68 +339,28 @@ fn sound(mode: Mode, held: usize, first: u8) -> bool
     pending_ok(mode)
 }
 
-// A constant is laid out anew wherever it is used: a read does so once, and not for each digit.
-fn digit_table() -> [u8; 256]
-    ensures { λ r. ⌜ Digits r ⌝ }
-{
-    DIGITS
-}
-
-// Whether a start is among these bytes. All are looked at: with no way out of the loop many are
-// compared at once.
-fn has_start(part: &[u8], start: u8) -> bool
-    ensures { λ r. ⌜ r ≡ among start (now (part .entry)) ⌝ }
-{
-    let mut found = false;
-    let mut i = 0;
-    while i < part.len() {
-        if part[i] == start {
-            found = true;
-        }
-        i += 1;
-    }
-    found
-}
-
-// Past the blocks with no start among them, as far as whole blocks go.
-fn skip_blocks(bytes: &[u8], start: u8) -> usize
-    ensures { λ r. ⌜ Passed start r (now (bytes .entry)) ⌝ }
-{
-    let mut i = 0;
-    while BLOCK <= bytes.len() - i {
-        let end = i + BLOCK;
-        if has_start(&bytes[i..end], start) {
-            return i;
-        }
-        i = end;
-    }
-    i
-}
-
-// How many bytes stand before the first start.
-fn before_start(bytes: &[u8], start: u8) -> usize
-    ensures { λ r. ⌜ r ≡ length (upToStart start (now (bytes .entry))) ⌝ }
-{
-    let mut i = skip_blocks(bytes, start);
-    while i < bytes.len() {
-        if bytes[i] == start {
-            return i;
-        }
-        i += 1;
-    }
-    i
-}
-
 // "After a verdict everything up to the next start is skipped; bytes before the first start give
 // nothing": a read passes over them before it decides on one.
 fn skipped(mode: Mode, bytes: &[u8]) -> usize
     ensures { λ r. ⌜ r ≡ skippedIn mode (now (bytes .entry)) ⌝ }
 {
     match mode {
-        Mode::Skipping(framing) => before_start(bytes, start_of(framing)),
+        Mode::Skipping(framing) => frames::before_start(bytes, standard::start_of(framing)),
         Mode::Open(_) => 0,
         Mode::Escape => 0,
         Mode::Digit(_) => 0,
+    }
+}
+
+// The plain bytes that an open frame takes at once; none in any other mode.
+fn take(mode: Mode, held: usize, frame: &mut [u8], bytes: &[u8]) -> Taken
+    ensures { λ r. ⌜ TakesIn mode held (now (frame .entry)) (now (bytes .entry)) r (now (frame .exit)) ⌝ }
+{
+    match mode {
+        Mode::Open(framing) => frames::take_plain(framing, held, frame, bytes),
+        Mode::Skipping(_) => Taken { count: 0, used: 0 },
+        Mode::Escape => Taken { count: 0, used: 0 },
+        Mode::Digit(_) => Taken { count: 0, used: 0 },
     }
 }
 
@@ -618,29 +376,18 @@ fn gives(mode: Mode, held: usize, used: usize, said: Said) -> Scanned
     }
 }
 
-// A read with the frame's bytes in lent memory, of which there are as many as a reader has.
-pub fn scan(from: Mode, count: usize, frame: &mut [u8], bytes: &[u8]) -> Scanned
+// The read of a sound state: plain bytes of an open frame are taken at once, and every other byte
+// is decided on its own.
+fn go(from: Mode, count: usize, frame: &mut [u8], bytes: &[u8]) -> Scanned
     requires { ⌜ length (now frame) ≡ longest + 3 ⌝ }
+    requires { ⌜ soundWith from count (getD (now frame) 0 0) ≡ true ⌝ }
     ensures { λ r. ⌜ Reads (record { mode = from; held = count; bytes = now (frame .entry) }) (now (bytes .entry)) (record { mode = r .mode; held = r .held; bytes = now (frame .exit) }) (r .used) (r .said) ⌝ }
 {
     let mut mode = from;
     let mut held = count;
-    if !sound(mode, held, frame[0]) {
-        return gives(mode, held, 0, Said::Gave(plain(12)));
-    }
     let mut i = skipped(mode, bytes);
-    let all = entire(mode, bytes, i);
-    if all.end != 0 {
-        let first = i + 1;
-        let end = first + all.end;
-        let sums = all.sums;
-        let verdict = judge_with(&bytes[first..end], sums);
-        lay(frame, &bytes[first..end]);
-        return gives(mode, 0, end, Said::Gave(verdict));
-    }
-    let digits = digit_table();
     while i < bytes.len() {
-        let decision = decide(mode, held, frame[0], bytes[i], &digits);
+        let decision = decide(mode, held, frame[0], bytes[i]);
         if decision.keep {
             frame[held] = decision.byte;
         }
@@ -649,17 +396,34 @@ pub fn scan(from: Mode, count: usize, frame: &mut [u8], bytes: &[u8]) -> Scanned
         held = decision.held;
         let outcome = decision.outcome;
         match outcome {
-            Outcome::Nothing => {}
+            Outcome::Nothing => {
+                let taken = take(mode, held, frame, &bytes[i..]);
+                held += taken.count;
+                i += taken.used;
+            }
             Outcome::Number => {
-                return gives(mode, held, i, Said::Gave(plain(decision.number)));
+                return gives(mode, held, i, frames::plain(decision.number));
             }
             Outcome::Judgement => {
-                let verdict = judge(frame);
-                return gives(mode, held, i, Said::Gave(verdict));
+                return gives(mode, held, i, frames::judge(frame));
             }
         }
     }
     gives(mode, held, i, Said::Silent)
+}
+
+// A read with the frame's bytes in lent memory. Where it is not as long as a reader's array the
+// answer is 12, as for a state that is not sound.
+pub fn scan(from: Mode, count: usize, frame: &mut [u8], bytes: &[u8]) -> Scanned
+    ensures { λ r. ⌜ Lent (record { mode = from; held = count; bytes = now (frame .entry) }) (now (bytes .entry)) (record { mode = r .mode; held = r .held; bytes = now (frame .exit) }) (r .used) (r .said) ⌝ }
+{
+    if frame.len() != MOST {
+        return gives(from, count, 0, frames::plain(12));
+    }
+    if !sound(from, count, frame[0]) {
+        return gives(from, count, 0, frames::plain(12));
+    }
+    go(from, count, frame, bytes)
 }
 
 // Up to and including the first verdict's byte, or to the end. A state that is not sound is handed

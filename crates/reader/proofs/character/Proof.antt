@@ -1,4 +1,4 @@
--- `reader::character` meets its contract: the stop where it is due, and else a digit by its entry in the table. Assumes nothing.
+-- `reader::character` meets its contract: the stop where it is due, and else a digit. Assumes nothing.
 use Prim.Native.Nat.{ℕ, _+_, _≤_, _<_}
 use native.Mathlib.Omega.{arith}
 use mathlib.Core.Path.{_≡_, _∙_}
@@ -11,27 +11,24 @@ use Rattle.standard.specs.declared.Framing.the-variants.{Ascii}
 use Rattle.standard.specs.Framing.{valueOf}
 use Rattle.reader.specs.declared.Mode.the-variants.{Open}
 use Rattle.reader.specs.Step.{takesDigit}
-use Rattle.reader.specs.Decide.{stepIn, Entry}
+use Rattle.reader.specs.Decide.{stepIn}
 use Rattle.reader.proofs.CodeSteps.{at-start, no-start, at-stop, no-stop, stop-bound, digit-due, is-digit, is-none}
 use Rattle.reader.proofs.character.Statement.{statement}
 use Rattle.reader.proofs.character.Tie as tie
 
 -- past the start and the stop a digit is due
-digit-here : (c : tie.After-shared-slice-known2) (bytes : List ℕ) → length bytes ≡ c .before .before .before .before .args .held → getD bytes 0 (c .before .before .before .before .args .first) ≡ c .before .before .before .before .args .first
-    → stepIn (Open Ascii) (c .before .before .before .before .args .b) bytes ≡ takesDigit none bytes (valueOf (c .before .before .before .before .args .b))
+digit-here : (c : tie.After-digit) → let a = c .before .before .before .args in (bytes : List ℕ) → length bytes ≡ a .held
+    → getD bytes 0 (a .first) ≡ a .first → stepIn (Open Ascii) (a .b) bytes ≡ takesDigit none bytes (valueOf (a .b))
 digit-here c bytes e f =
-    let a = c .before .before .before .before .args in
+    let a = c .before .before .before .args in
     let due : 0 < length bytes → length bytes < a .first + 3 = ⊎-elim (λ w. omega arith) (λ w. omega arith) (c .before .if2 .came) in
     no-start (Open Ascii) bytes (a .b) (c .before .before .if1 .left) ∙ digit-due bytes (a .first) (a .b) f due
-
-entry : (c : tie.After-shared-slice-known2) → Entry (valueOf (c .before .before .before .before .args .b)) (getD (c .before .before .before .before .args .digits .now) (c .before .before .before .before .args .b) 0)
-entry c = c .before .before .before .before .pre .entry (c .before .before .before .before .args .b) (search needs)
 
 opens-requires : tie.Need-opens-requires
 opens-requires c κs = search needs
 
 returns : tie.Need-returns
-returns c bytes e f = rw (at-start (Open Ascii) bytes (c .before .before .before .args .b) (c .before .if1 .taken)) (c .opens .ensures bytes)
+returns c bytes e f = rw (at-start (Open Ascii) bytes (c .before .before .args .b) (c .before .if1 .taken)) (c .opens .ensures bytes)
 
 add-if3 : tie.Need-add-if3
 add-if3 c = search needs
@@ -41,10 +38,11 @@ stops-requires c κs = search needs
 
 returns-2 : tie.Need-returns-2
 returns-2 c bytes e f =
-    let a = c .before .before .before .before .before .before .args in
+    let a = c .before .before .before .before .before .args in
     let some : 0 < length bytes = omega arith in
     let due : a .first + 3 ≤ length bytes = omega arith in
-    rw (no-start (Open Ascii) bytes (a .b) (c .before .before .before .before .if1 .left), at-stop bytes (a .first) (a .b) some f due (c .before .if4 .taken))
+    let none = no-start (Open Ascii) bytes (a .b) (c .before .before .before .before .if1 .left) in
+    rw (none, at-stop bytes (a .first) (a .b) some f due (c .before .if4 .taken))
     (c .stops .ensures bytes (stop-bound bytes (a .first) some f due))
 
 says-requires : tie.Need-says-requires
@@ -52,14 +50,15 @@ says-requires c κs = search needs
 
 returns-3 : tie.Need-returns-3
 returns-3 c bytes e f =
-    let a = c .before .before .before .before .before .before .args in
+    let a = c .before .before .before .before .before .args in
     let some : 0 < length bytes = omega arith in
     let due : a .first + 3 ≤ length bytes = omega arith in
-    rw (no-start (Open Ascii) bytes (a .b) (c .before .before .before .before .if1 .left), no-stop bytes (a .first) (a .b) some f due (c .before .if4 .left))
+    let none = no-start (Open Ascii) bytes (a .b) (c .before .before .before .before .if1 .left) in
+    rw (none, no-stop bytes (a .first) (a .b) some f due (c .before .if4 .left))
     (c .says .ensures bytes)
 
-shared-slice-read-d : tie.Need-shared-slice-read-d
-shared-slice-read-d c = search needs
+digit-requires : tie.Need-digit-requires
+digit-requires c κs = search needs
 
 goes-requires : tie.Need-goes-requires
 goes-requires c κs = search needs
@@ -69,11 +68,15 @@ says-requires-2 c κs = search needs
 
 returns-4 : tie.Need-returns-4
 returns-4 c bytes e f =
-    rw (digit-here (c .before .before) bytes e f, is-digit (valueOf (c .before .before .before .before .before .before .args .b)) _ (entry (c .before .before)) (c .before .if5 .taken)) (c .goes .ensures bytes e)
+    let d = c .before .before in
+    rw (digit-here d bytes e f, is-digit (d .before .before .before .args .b) (d .digit .result) (d .digit .ensures) (c .before .if5 .taken))
+    (c .goes .ensures bytes e)
 
 returns-5 : tie.Need-returns-5
 returns-5 c bytes e f =
-    rw (digit-here (c .before .before) bytes e f, is-none (valueOf (c .before .before .before .before .before .before .args .b)) _ (entry (c .before .before)) (c .before .if5 .left)) (c .says2 .ensures bytes)
+    let d = c .before .before in
+    rw (digit-here d bytes e f, is-none (d .before .before .before .args .b) (d .digit .result) (d .digit .ensures) (c .before .if5 .left))
+    (c .says2 .ensures bytes)
 
 pub character-spec : {M : Type 1} → statement M
 character-spec =
@@ -86,7 +89,7 @@ character-spec =
     returns-2
     says-requires
     returns-3
-    shared-slice-read-d
+    digit-requires
     goes-requires
     says-requires-2
     returns-4

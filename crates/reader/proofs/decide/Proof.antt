@@ -36,8 +36,8 @@ enum-known-mode-3 c = search needs
 
 low-digit-requires : tie.Need-low-digit-requires
 low-digit-requires c κs =
-    let p = c .before .before .before .before .pre in
-    (p .0, leb-true _ 15 (rw (c .before .mode3 .given .1) at (p .1)), p .2)
+    let p = c .before .before .before .pre in
+    (p .0, leb-true _ 15 (rw (c .before .mode3 .given .1) at (p .1)))
 
 returns : tie.Need-returns
 returns c bytes e f = rw (c .before .before .mode .given .1) (c .skipping .ensures bytes e)

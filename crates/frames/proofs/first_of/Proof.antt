@@ -1,0 +1,47 @@
+-- `frames::first_of` meets its contract. Assumes nothing.
+use Prim.Native.Nat.{_+_, _≤_, _<_}
+use native.Mathlib.Omega.{arith}
+use mathlib.Core.Path.{_≡_, sym, ap, _∙_}
+use lib.ListN.{length}
+use borrow.Author.Needs.{needs}
+use Rattle.frames.specs.Plain.{span}
+use Rattle.frames.proofs.Plainly.{span-none, first-held, first-comes, none-comes}
+use Rattle.frames.proofs.first_of.Statement.{statement}
+use Rattle.frames.proofs.first_of.Tie as tie
+
+shared-slice-read-result : tie.Need-shared-slice-read-result
+shared-slice-read-result c = omega (arith, c .before .before .before .before .before .pre .1 .size)
+
+returns : tie.Need-returns
+returns c =
+    let s = c .before .before .before .before .before in
+    first-held (s .args .held) (s .args .frame .now) _ (c .before .if1 .taken) (omega (arith, s .pre .1 .size))
+
+plain-at-requires : tie.Need-plain-at-requires
+plain-at-requires c κs =
+    let s = c .before .before .before .before in
+    (s .pre .0, omega (arith, span-none (s .args .framing)))
+
+cast-result : tie.Need-cast-result
+cast-result c = search needs
+
+returns-2 : tie.Need-returns-2
+returns-2 c =
+    let a = c .before .before .before .before .before .before .args in
+    none-comes (a .framing) (a .held) (a .frame .now) (a .bytes .now) (c .before .plain-at .result) (c .before .before .if1 .left) (c .before .plain-at .ensures) (c .if2 .taken)
+
+returns-3 : tie.Need-returns-3
+returns-3 c =
+    let a = c .before .before .before .before .before .before .args in
+    first-comes (a .framing) (a .held) (a .frame .now) (a .bytes .now) (c .before .plain-at .result) (c .before .before .if1 .left) (c .before .plain-at .ensures) (c .if2 .left)
+
+pub first-of-spec : {M : Type 1} → statement M
+first-of-spec =
+    tie.close
+    (tie.spec
+    shared-slice-read-result
+    returns
+    plain-at-requires
+    cast-result
+    returns-2
+    returns-3)

@@ -1,0 +1,49 @@
+-- `frames::grow` meets its contract: the length byte decides. Assumes nothing.
+use mathlib.Core.Path.{sym, _∙_}
+use borrow.Author.Needs.{needs}
+use Rattle.frames.proofs.Plainly.{run-grows, bad-grows}
+use Rattle.frames.proofs.grow.Statement.{statement}
+use Rattle.frames.proofs.grow.Tie as tie
+
+first-of-requires : tie.Need-first-of-requires
+first-of-requires c κs = search needs
+
+length-ok-requires : tie.Need-length-ok-requires
+length-ok-requires c κs = search needs
+
+run-requires : tie.Need-run-requires
+run-requires c κs =
+    let s = c .before .before .before .before .before .before .before .before in
+    (s .pre .0, sym (c .before .before .length-ok .ensures) ∙ c .before .if1 .taken, s .pre .1)
+
+same-length : tie.Need-same-length
+same-length c = search needs
+
+returns : tie.Need-returns
+returns c =
+    let s = c .before .before .before .before .before .before .before .before .before .before .before in
+    let a = s .args in
+    let first = c .before .before .before .before .before .before .first-of in
+    let known = sym (c .before .before .before .before .before .length-ok .ensures) ∙ c .before .before .before .before .if1 .taken in
+    run-grows (a .framing) (a .held) (a .frame .now) (a .bytes .now) (first .result) _ _ (s .pre .1) (first .ensures) known (c .before .before .run .ensures)
+
+same-length-2 : tie.Need-same-length-2
+same-length-2 c = search needs
+
+returns-2 : tie.Need-returns-2
+returns-2 c =
+    let a = c .before .before .before .before .before .before .before .args in
+    let first = c .before .before .first-of in
+    bad-grows (a .framing) (a .held) (a .frame .now) (a .bytes .now) (first .result) (first .ensures) (sym (c .before .length-ok .ensures) ∙ c .if1 .left)
+
+pub grow-spec : {M : Type 1} → statement M
+grow-spec =
+    tie.close
+    (tie.spec
+    first-of-requires
+    length-ok-requires
+    run-requires
+    same-length
+    returns
+    same-length-2
+    returns-2)

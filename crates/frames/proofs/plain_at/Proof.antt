@@ -1,0 +1,39 @@
+-- `frames::plain_at` meets its contract, framing by framing. Assumes nothing.
+use native.Mathlib.Omega.{arith}
+use mathlib.Core.Path.{_≡_}
+use borrow.Author.Needs.{needs}
+use Rattle.frames.proofs.plain_at.Statement.{statement}
+use Rattle.frames.proofs.plain_at.Tie as tie
+
+enum-told : tie.Need-enum-told
+enum-told c = search needs
+
+standing-at-requires : tie.Need-standing-at-requires
+standing-at-requires c κs = search needs
+
+enum-told-2 : tie.Need-enum-told-2
+enum-told-2 c = search needs
+
+mul-pair-at : tie.Need-mul-pair-at
+mul-pair-at c = let s = c .before .before .before .before in omega (arith, rw (c .enum-told2 .given .1) at (s .pre .1), s .good)
+
+pair-at-requires : tie.Need-pair-at-requires
+pair-at-requires c κs = let s = c .before .before .before .before in let told = c .enum-told2 .given .1 in (rw told at (s .pre .1), s .pre .0 told)
+
+returns : tie.Need-returns
+returns c = rw (c .before .enum-told .given .1) (c .standing-at .ensures)
+
+returns-2 : tie.Need-returns-2
+returns-2 c = rw (c .before .enum-told2 .given .1) (c .pair-at .ensures)
+
+pub plain-at-spec : {M : Type 1} → statement M
+plain-at-spec =
+    tie.close
+    (tie.spec
+    enum-told
+    standing-at-requires
+    enum-told-2
+    mul-pair-at
+    pair-at-requires
+    returns
+    returns-2)

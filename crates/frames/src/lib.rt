@@ -1,0 +1,304 @@
+// What is decided of a frame's bytes without a reader's mode: where a start is, what a digit is
+// worth, which bytes stand plainly on the line, and the judgement of a whole frame.
+ghost use mathlib.Core.Path.{_≡_};
+ghost use Prim.Native.Nat.{_+_, _≤_};
+ghost use mathlib.Core.Bool.{true};
+ghost use mathlib.Core.List.{[]};
+ghost use lib.ListN.{length, getD, drop};
+ghost use Rattle.standard.specs.declared.Framing.the-variants.{Binary, Ascii};
+ghost use Rattle.standard.specs.Messages.{lengthOk, among};
+ghost use Rattle.standard.specs.Judge.{handing, verdictFor};
+ghost use Rattle.standard.specs.Stream.{upToStart};
+ghost use Rattle.frames.specs.Plain.{digitIn, stands, span, beyond, plainOf, lengthOf, TakesPlain};
+ghost use Rattle.frames.specs.Judging.{judgedFrame, saidOf};
+ghost use Rattle.frames.specs.Parts.{Complete, Digits, Passed, Roomy, Next, Runs, Grows};
+ghost use Rattle.standard.specs.declared.Said.the-variants.{Gave};
+
+mod digits;
+
+use digits::DIGITS;
+use standard::Framing;
+use standard::Said;
+use standard::Verdict;
+
+// The most recovered bytes: the length, the longest message and two sums.
+const MOST: usize = standard::LONGEST + 3;
+
+// So many bytes between frames are looked at together: as many as a vector register holds.
+const BLOCK: usize = 16;
+
+// "Read and written: 1 to 18."
+pub fn length_ok(n: u8) -> bool
+    ensures { λ r. ⌜ r ≡ lengthOk n ⌝ }
+{
+    1 <= n && n as usize <= standard::LONGEST
+}
+
+// ---- up to the next start
+
+// Whether a start is among these bytes. All are looked at: with no way out of the loop many are
+// compared at once.
+fn has_start(part: &[u8], start: u8) -> bool
+    ensures { λ r. ⌜ r ≡ among start (now (part .entry)) ⌝ }
+{
+    let mut found = false;
+    let mut i = 0;
+    while i < part.len() {
+        if part[i] == start {
+            found = true;
+        }
+        i += 1;
+    }
+    found
+}
+
+// Past the blocks with no start among them, as far as whole blocks go.
+fn skip_blocks(bytes: &[u8], start: u8) -> usize
+    ensures { λ r. ⌜ Passed start r (now (bytes .entry)) ⌝ }
+{
+    let mut i = 0;
+    while BLOCK <= bytes.len() - i {
+        let end = i + BLOCK;
+        if has_start(&bytes[i..end], start) {
+            return i;
+        }
+        i = end;
+    }
+    i
+}
+
+// How many bytes stand before the first start.
+pub fn before_start(bytes: &[u8], start: u8) -> usize
+    ensures { λ r. ⌜ r ≡ length (upToStart start (now (bytes .entry))) ⌝ }
+{
+    if 0 < bytes.len() {
+        if bytes[0] == start {
+            return 0;
+        }
+    }
+    let mut i = skip_blocks(bytes, start);
+    while i < bytes.len() {
+        if bytes[i] == start {
+            return i;
+        }
+        i += 1;
+    }
+    i
+}
+
+// ---- plain bytes
+
+// A constant is laid out anew wherever it is used.
+fn digit_table() -> [u8; 256]
+    ensures { λ r. ⌜ Digits r ⌝ }
+{
+    DIGITS
+}
+
+// A digit's value; 16: it is none.
+pub fn digit(c: u8) -> u8
+    ensures { λ r. ⌜ r ≡ digitIn c ⌝ }
+{
+    let digits = digit_table();
+    digits[c as usize]
+}
+
+// Whether a byte of a binary frame stands for itself: neither 7Dh nor 7Eh.
+fn stands(b: u8) -> bool
+    ensures { λ r. ⌜ r ≡ stands b ⌝ }
+{
+    b < 0x7D || 0x7E < b
+}
+
+// How many bytes of a frame come after its message before the byte that decides: that byte is the
+// second sum in binary, and the stop in ASCII.
+fn beyond(framing: Framing) -> usize
+    ensures { λ r. ⌜ r ≡ beyond framing ⌝ }
+{
+    match framing {
+        Framing::Binary => 2,
+        Framing::Ascii => 3,
+    }
+}
+
+// The byte at a place, where it stands for itself; 256: there is none.
+fn standing_at(bytes: &[u8], at: usize) -> u16
+    ensures { λ r. ⌜ Next (plainOf Binary (drop at (now (bytes .entry)))) r ⌝ }
+{
+    if bytes.len() <= at {
+        return 256;
+    }
+    let b = bytes[at];
+    if stands(b) { b as u16 } else { 256 }
+}
+
+// The byte of the two digits at a place, "high digit first"; 256: there is none.
+fn pair_at(bytes: &[u8], at: usize, digits: &[u8]) -> u16
+    requires { ⌜ (at ≤ length (now bytes)) × Digits (now digits) ⌝ }
+    ensures { λ r. ⌜ Next (plainOf Ascii (drop at (now (bytes .entry)))) r ⌝ }
+{
+    if bytes.len() - at < 2 {
+        return 256;
+    }
+    let high = digits[bytes[at] as usize];
+    if 16 <= high {
+        return 256;
+    }
+    let low = digits[bytes[at + 1] as usize];
+    if 16 <= low {
+        return 256;
+    }
+    (high * 16 + low) as u16
+}
+
+// The next plain byte, after i of them; 256: there is none.
+fn plain_at(framing: Framing, bytes: &[u8], i: usize, digits: &[u8]) -> u16
+    requires { ⌜ (framing ≡ Ascii → Digits (now digits)) × (span framing i ≤ length (now bytes)) ⌝ }
+    ensures { λ r. ⌜ Next (plainOf framing (drop (span framing i) (now (bytes .entry)))) r ⌝ }
+{
+    match framing {
+        Framing::Binary => standing_at(bytes, i),
+        Framing::Ascii => pair_at(bytes, 2 * i, digits),
+    }
+}
+
+// The plain bytes that a frame of length byte `first` takes, laid after those that it has.
+fn run(
+    framing: Framing,
+    first: u8,
+    held: usize,
+    frame: &mut [u8],
+    bytes: &[u8],
+    digits: &[u8],
+) -> usize
+    requires { ⌜ (framing ≡ Ascii → Digits (now digits)) × (lengthOk first ≡ true) × Roomy held (now frame) ⌝ }
+    ensures { λ r. ⌜ Runs framing first held (now (frame .entry)) (now (bytes .entry)) r (now (frame .exit)) ⌝ }
+{
+    let end = first as usize + beyond(framing);
+    let mut i = 0;
+    while held + i < end {
+        let x = plain_at(framing, bytes, i, digits);
+        if 255 < x {
+            return i;
+        }
+        frame[held + i] = x as u8;
+        i += 1;
+    }
+    i
+}
+
+// The length byte of a frame of which `held` bytes stand in its array, or else the first plain byte
+// that comes; 0: there is none.
+fn first_of(framing: Framing, held: usize, frame: &[u8], bytes: &[u8], digits: &[u8]) -> u8
+    requires { ⌜ (framing ≡ Ascii → Digits (now digits)) × Roomy held (now frame) ⌝ }
+    ensures { λ r. ⌜ r ≡ lengthOf held (now (frame .entry)) (plainOf framing (now (bytes .entry))) ⌝ }
+{
+    if held != 0 {
+        return frame[0];
+    }
+    let x = plain_at(framing, bytes, 0, digits);
+    if 255 < x { 0 } else { x as u8 }
+}
+
+// The plain bytes that an open frame takes, laid in its array.
+fn grow(framing: Framing, held: usize, frame: &mut [u8], bytes: &[u8], digits: &[u8]) -> usize
+    requires { ⌜ (framing ≡ Ascii → Digits (now digits)) × Roomy held (now frame) ⌝ }
+    ensures { λ r. ⌜ Grows framing held (now (frame .entry)) (now (bytes .entry)) r (now (frame .exit)) ⌝ }
+{
+    let length = first_of(framing, held, frame, bytes, digits);
+    if length_ok(length) {
+        run(framing, length, held, frame, bytes, digits)
+    } else {
+        0
+    }
+}
+
+// How many plain bytes were taken, and how many bytes of the line these are.
+pub struct Taken {
+    pub count: usize,
+    pub used: usize,
+}
+
+// The plain bytes that an open frame takes at once, of which `held` bytes stand in its array: they
+// are laid after these, up to the byte that decides. None where the array has no room for the
+// longest frame.
+pub fn take_plain(framing: Framing, held: usize, frame: &mut [u8], bytes: &[u8]) -> Taken
+    ensures { λ r. ⌜ TakesPlain framing held (now (frame .entry)) (now (bytes .entry)) r (now (frame .exit)) ⌝ }
+{
+    if frame.len() < MOST {
+        return Taken { count: 0, used: 0 };
+    }
+    if MOST < held {
+        return Taken { count: 0, used: 0 };
+    }
+    match framing {
+        Framing::Binary => {
+            let count = grow(framing, held, frame, bytes, &bytes[..0]);
+            Taken { count, used: count }
+        }
+        Framing::Ascii => {
+            if bytes.len() < 2 {
+                return Taken { count: 0, used: 0 };
+            }
+            let digits = digit_table();
+            let count = grow(framing, held, frame, bytes, &digits);
+            Taken {
+                count,
+                used: 2 * count,
+            }
+        }
+    }
+}
+
+// ---- a whole frame
+
+// A verdict that carries nothing.
+pub fn plain(number: u8) -> Said
+    ensures { λ r. ⌜ r ≡ Gave (verdictFor (handing number [])) ⌝ }
+{
+    Said::Gave(Verdict {
+        number,
+        type_byte: 0,
+        length: 0,
+    })
+}
+
+// The frame that these bytes begin with, which has its sums. "At that byte the order is 3, 5, 6, 7,
+// 8": 3 needs no look at them.
+fn judge_whole(frame: &[u8], length: u8) -> Said
+    requires { ⌜ (getD (now frame) 0 0 ≡ length) × Complete (now frame) ⌝ }
+    ensures { λ r. ⌜ r ≡ saidOf (judgedFrame (now (frame .entry))) ⌝ }
+{
+    let end = length as usize + 1;
+    let sums = sums::sums_of(&frame[..end]);
+    if frame[end] != sums.one {
+        return plain(5);
+    }
+    if frame[end + 1] != sums.two {
+        return plain(5);
+    }
+    let number = messages::check(&frame[1..end]);
+    Said::Gave(Verdict {
+        number,
+        type_byte: frame[1],
+        length: if number == 0 { length } else { 0 },
+    })
+}
+
+// The judgement of a frame's recovered bytes, with its length byte first; silent where some of them
+// are not there yet.
+pub fn judge(frame: &[u8]) -> Said
+    ensures { λ r. ⌜ r ≡ saidOf (judgedFrame (now (frame .entry))) ⌝ }
+{
+    if frame.len() == 0 {
+        return Said::Silent;
+    }
+    let length = frame[0];
+    if !length_ok(length) {
+        return plain(4);
+    }
+    if frame.len() < length as usize + 3 {
+        return Said::Silent;
+    }
+    judge_whole(frame, length)
+}
