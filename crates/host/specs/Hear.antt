@@ -1,22 +1,15 @@
 -- What `hear` and `listen` answer: a read, the reply to its verdict, and the table after it. Assumes nothing.
-use Prim.Native.Nat.{ℕ, _+_}
+use Prim.Native.Nat.{ℕ}
 use mathlib.Core.Path.{_≡_}
 use mathlib.Core.Bool.{cond}
 use mathlib.Core.List.{List, [], _∷_}
-use lib.Dec.{eqb}
-use lib.ListN.{length}
 use Rattle.standard.specs.declared.Said.{Said}
 use Rattle.standard.specs.declared.Reply.{Reply}
-use Rattle.standard.specs.Messages.{longest}
 use Rattle.standard.specs.Judge.{Handed, handing}
 use Rattle.standard.specs.Replies.{replyNumber, replyOf}
 use Rattle.standard.specs.Table.{isTable, tableAfter}
 use Rattle.reader.specs.declared.Reader.{Reader}
-use Rattle.reader.specs.Read.{Given, notSound, readOf, Gives}
-
--- a read with a lent array, which is refused like an unsound state where it is not a reader's
-abbrev pub lentRead : Reader → List ℕ → Given
-lentRead r bs = cond (eqb (length (r .bytes)) (longest + 3)) (readOf r bs) (notSound r)
+use Rattle.reader.specs.Read.{Given, Gives, lentRead}
 
 -- 11: no byte is used, and the reader is handed back
 abbrev pub noTable : Reader → Given

@@ -57,8 +57,7 @@ fn store(table: &mut [u8], verdict: Verdict, frame: &[u8])
     }
 }
 
-// `hear` with the frame's bytes in lent memory, of which there are as many as a reader has; any
-// other number of them is answered with 12.
+// `hear` with the frame's bytes in lent memory, as `reader::scan` has them.
 pub fn listen(
     from: Mode,
     count: usize,
@@ -70,9 +69,6 @@ pub fn listen(
 {
     if table.len() != table::TABLE_BYTES {
         return refused(from, count, 11);
-    }
-    if frame.len() != standard::LONGEST + 3 {
-        return refused(from, count, 12);
     }
     let answer = reader::scan(from, count, frame, bytes);
     let mode = answer.mode;

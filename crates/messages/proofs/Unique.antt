@@ -8,10 +8,10 @@ use Rattle.messages.proofs.length_for.Reads as length-for
 use Rattle.messages.proofs.check.Kinds as check-kinds
 use Rattle.messages.proofs.check.Reads as check
 
-pub length-for-one : (κs : Lfts 0) (a : Dens κs length-for-kinds.ps) (e : AtExit (endedOf 0 length-for-kinds.ps length-for-kinds.r) κs)
+pub length-for-unique : (κs : Lfts 0) (a : Dens κs length-for-kinds.ps) (e : AtExit (endedOf 0 length-for-kinds.ps length-for-kinds.r) κs)
     (x y : resT length-for-kinds.r κs .Denot) → length-for.Post κs a x e → length-for.Post κs a y e → x ≡ y
-length-for-one κs a e x y p q = p ∙ sym q
+length-for-unique κs a e x y p q = p ∙ sym q
 
-pub check-one : (κs : Lfts 1) (a : Dens κs check-kinds.ps) (e : AtExit (endedOf 1 check-kinds.ps check-kinds.r) κs)
+pub check-unique : (κs : Lfts 1) (a : Dens κs check-kinds.ps) (e : AtExit (endedOf 1 check-kinds.ps check-kinds.r) κs)
     (x y : resT check-kinds.r κs .Denot) → check.Post κs a x e → check.Post κs a y e → x ≡ y
-check-one κs a e x y p q = p ∙ sym q
+check-unique κs a e x y p q = p ∙ sym q

@@ -1,9 +1,12 @@
--- The promise of `reply` settles its answer: two that meet it are the same. Assumes nothing.
-use Prim.Native.Nat.{ℕ}
+-- Two answers that meet the contract of `reply` are equal: a reply's number settles it. Assumes nothing.
 use mathlib.Core.Path.{_≡_, sym, _∙_}
-use Rattle.standard.specs.declared.Reply.{Reply}
-use Rattle.standard.specs.Replies.{replyNumber, replyOf}
+use borrow.Fn.Kinds.{Dens, endedOf, resT}
+use contract.Lifetimes.{Lfts}
+use denote.Triple.Clauses.{AtExit}
 use Rattle.standard.proofs.Replies.{reply-one}
+use Rattle.replies.proofs.reply.Kinds.{ps, r}
+use Rattle.replies.proofs.reply.Reads.{Post}
 
-pub reply-unique : (verdict t : ℕ) {r s : Reply} → replyNumber r ≡ replyOf verdict t → replyNumber s ≡ replyOf verdict t → r ≡ s
-reply-unique verdict t p q = reply-one (p ∙ sym q)
+pub reply-unique : (κs : Lfts 0) (a : Dens κs ps) (e : AtExit (endedOf 0 ps r) κs) (x y : resT r κs .Denot)
+    → Post κs a x e → Post κs a y e → x ≡ y
+reply-unique κs a e x y p q = reply-one {a = x} {b = y} (p ∙ sym q)

@@ -1,16 +1,13 @@
 -- `host::listen` meets its contract: what `scan`, `store` and `reply` promise, put together by the laws of Answers.
 -- Assumes nothing.
-use Prim.Native.Nat.{_+_}
 use native.Mathlib.Omega.{arith}
-use mathlib.Core.Path.{_≡_, refl, _∙_}
-use lib.ListN.{length}
+use mathlib.Core.Path.{_≡_, refl}
 use borrow.Author.Needs.{needs}
-use Rattle.standard.specs.Messages.{longest}
 use Rattle.standard.specs.Table.{tableAfter}
 use Rattle.reader.specs.declared.Reader.{Reader}
-use Rattle.reader.specs.Read.{readOf}
+use Rattle.reader.specs.Read.{lentRead}
 use Rattle.host.specs.Hear.{heardBy}
-use Rattle.host.proofs.Answers.{no-table, no-array, heard-read, refused, hears, message-fits}
+use Rattle.host.proofs.Answers.{no-table, heard-scan, refused, hears, message-fits, good-sized}
 use Rattle.host.proofs.listen.Statement.{statement}
 use Rattle.host.proofs.listen.Tie as tie
 
@@ -20,15 +17,14 @@ given s = record { mode = s .args .from; held = s .args .count; bytes = s .args 
 
 -- where the read begins, a call hears what it gives
 abbrev start : tie.After-scan → tie.Start
-start c = c .before .before .before .before .before .before .before
+start c = c .before .before .before .before .before .before
 
 heard : (c : tie.After-scan)
     → let s = start c in
-    heardBy (given s) (s .args .table .now) (s .args .bytes .now) ≡ readOf (given s) (s .args .bytes .now)
+    heardBy (given s) (s .args .table .now) (s .args .bytes .now) ≡ lentRead (given s) (s .args .bytes .now)
 heard c =
     let s = start c in
-    let tests = c .before .before in
-    heard-read (given s) (s .args .table .now) (s .args .bytes .now) (tests .before .if1 .left) (tests .if2 .left)
+    heard-scan (given s) (s .args .table .now) (s .args .bytes .now) (c .before .before .if1 .left)
 
 -- the read whose verdict it is
 abbrev scanned : tie.After-said → tie.After-scan
@@ -45,20 +41,6 @@ returns c =
     (refused 11 (given s) (s .args .table .now) (s .args .bytes .now) (omega arith)
     (no-table (given s) (s .args .table .now) (s .args .bytes .now) (test .if1 .taken)))
 
-add-if2 : tie.Need-add-if2
-add-if2 c = search needs
-
-refused-requires-2 : tie.Need-refused-requires-2
-refused-requires-2 c κs = tt
-
-returns-2 : tie.Need-returns-2
-returns-2 c =
-    let test = c .before in
-    let s = test .before .before .before .before .before in
-    rw (c .refused2 .ensures)
-    (refused 12 (given s) (s .args .table .now) (s .args .bytes .now) (omega arith)
-    (no-array (given s) (s .args .table .now) (s .args .bytes .now) (test .before .if1 .left) (test .if2 .taken)))
-
 scan-requires : tie.Need-scan-requires
 scan-requires c κs = search needs
 
@@ -72,8 +54,9 @@ store-requires : tie.Need-store-requires
 store-requires c κs =
     let v = c .before .before .before .said .given in
     let o = scanned (c .before .before .before) in
-    let size : length (o .scan .last .1 .1 .0) ≡ longest + 3 = o .scan .kept .1 .1 .0 ∙ o .before .before .if2 .left in
-    λ z. omega (arith, message-fits (v .0 .0) (v .1) (o .scan .ensures .gives), size)
+    let s = start o in
+    let sized = good-sized (given s) (s .args .bytes .now) (v .0 .0) (v .1) (o .scan .ensures .gives) in
+    λ z. omega (arith, message-fits (v .0 .0) (v .1) (o .scan .ensures .gives), o .scan .kept .1 .1 .0, sized z)
 
 reply-requires : tie.Need-reply-requires
 reply-requires c κs = search needs
@@ -81,9 +64,9 @@ reply-requires c κs = search needs
 same-length : tie.Need-same-length
 same-length c = search needs
 
-returns-3 : tie.Need-returns-3
+returns-2 : tie.Need-returns-2
 unfolding tableAfter
-returns-3 c =
+returns-2 c =
     let o = c .before .before .before .before in
     let s = start o in
     hears (given s) (s .args .table .now) (s .args .bytes .now)
@@ -95,8 +78,8 @@ same-length-2 c = search needs
 same-length-3 : tie.Need-same-length-3
 same-length-3 c = search needs
 
-returns-4 : tie.Need-returns-4
-returns-4 c =
+returns-3 : tie.Need-returns-3
+returns-3 c =
     let put = c .before .before .before in
     let known = put .before .before .before .before in
     let o = scanned known in
@@ -111,16 +94,13 @@ listen-spec =
     (tie.spec
     refused-requires
     returns
-    add-if2
-    refused-requires-2
-    returns-2
     scan-requires
     enum-told
     enum-known-said
     store-requires
     reply-requires
     same-length
-    returns-3
+    returns-2
     same-length-2
     same-length-3
-    returns-4)
+    returns-3)
