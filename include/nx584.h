@@ -30,8 +30,8 @@
  * else. Targets: x86-64 (System V calls) and, as a release, 64-bit Arm, both little-endian, with a
  * size_t of 8 bytes and IEEE doubles.
  *
- * Nothing proves these lines to be the library's source's; the two are changed together, and the tests
- * try them. */
+ * No proof ties these lines to the library's source: the two are changed together, and the tests try
+ * them. */
 #ifndef NX584_H
 #define NX584_H
 

@@ -18,7 +18,7 @@ import tempfile
 import termios
 import time
 
-PATIENCE = 20  # seconds until something that should happen counts as missing
+PATIENCE = 60  # seconds until something that should happen counts as missing
 FRAMINGS = {"binary": [], "ascii": ["--ascii"]}
 
 
@@ -79,7 +79,7 @@ def stream(chance, framing, frames=80):
         parts.append(bytes(part))
         if chance.randrange(4) == 0:
             parts.append(bytes(chance.choice(b"\x03\x04\x0d\x11\x13\x15\x1a\x1c\x7f\x00\xff") for _ in range(5)))
-    return b"".join(parts)
+    return b"".join(parts) + frame(framing, b"\x87" + bytes(8))  # the last byte is answered
 
 
 # ---- a line and its other end
@@ -100,8 +100,7 @@ class Line:
         self.path, self.heard = path, b""
         self.far, self.near = os.openpty()
         os.set_blocking(self.far, False)
-        os.symlink(os.ttyname(self.near), path + ".new")
-        os.replace(path + ".new", path)
+        os.symlink(os.ttyname(self.near), path)
 
     def settings(self):
         return termios.tcgetattr(self.near)
@@ -123,15 +122,20 @@ class Line:
                 time.sleep(0.001)
 
     def is_read(self):
-        """Whether every byte sent was read, seen five times: the kernel hands bytes on with a delay."""
-        for _ in range(5):
+        """Whether every byte sent was read, as seen for half a second: the kernel hands bytes on with a delay."""
+        for _ in range(10):
             self.hear()
             if struct.unpack("i", fcntl.ioctl(self.near, termios.FIONREAD, b"\0" * 4))[0]:
                 return False
-            time.sleep(0.01)
+            time.sleep(0.05)
         return True
 
+    def has_heard(self, replies):
+        self.hear()
+        return len(self.heard) >= len(replies)
+
     def close(self):
+        os.unlink(self.path)  # first: the next pseudo-terminal that anybody opens has the same number
         os.close(self.far)
         os.close(self.near)
 
@@ -214,12 +218,17 @@ class Trials:
         before = line.settings()
         host = self.started(home, line, words + ["--speed", "19200"])
         during = line.settings()
-        for piece in self.pieces(data):
+        answered = True
+        for k, piece in enumerate(self.pieces(data)):
             line.send(piece)
             if self.chance.randrange(3) == 0:
                 host.send(signal.SIGUSR1)
                 time.sleep(self.chance.choice((0, 0.001, 0.01)))
-        read = until(line.is_read)
+            if k % 40 == 39:  # signals that come together count once
+                shown = host.said().count("site:")
+                host.send(signal.SIGUSR1)
+                answered = answered and host.said_often("site:", shown + 1)
+        read = until(lambda: line.has_heard(replies))
         ended = host.end(self.chance.choice((signal.SIGTERM, signal.SIGINT, signal.SIGHUP)))
         line.hear()
         self.note(f"{framing}: cut anywhere, signals in between: the table of the uncut stream", self.hearing, status == 0,
@@ -227,7 +236,7 @@ class Trials:
         self.note(f"{framing}: the replies of the uncut stream, in its framing, and no echo", line.heard == replies,
                   are_replies(framing, replies))
         self.note(f"{framing}: the overview of the uncut stream at the end, and others before",
-                  host.said().endswith(overview), host.said().count("site:") > 10)
+                  host.said().endswith(overview), answered)
         raw = [during[0], during[1], during[3]] == [0, 0, 0] and during[2] & ~0o10017 == termios.CS8 | termios.CREAD | termios.CLOCAL
         self.note(f"{framing}: the line was raw, 8N1 and 19200 baud, and is as it was", raw,
                   during[4:6] == [termios.B19200] * 2, line.settings() == before, before[3] & termios.ECHO != 0)
@@ -291,7 +300,7 @@ class Trials:
             host.send(signal.SIGUSR1)
             time.sleep(0.001)
         line.send(starts)
-        got = until(lambda: line.hear() or len(line.heard) >= len(replies))
+        got = until(lambda: line.has_heard(replies))
         self.note("a line that takes no byte for a while, signals meanwhile: no reply is lost", self.hearing, stuck, got,
                   line.heard == replies, host.said().count("site:") > 0)
         line.send(b"\x7e" * 4096, hearing=False)
@@ -308,7 +317,7 @@ class Trials:
         host = Host(home, self.command, [], line.near, line.near)
         raw = until(lambda: line.settings()[3] == 0)
         line.send(data)
-        read = until(line.is_read)
+        read = until(lambda: line.has_heard(replies))
         ended = host.end()
         line.hear()
         self.note("a terminal as standard input and output: set up too", raw, read, ended == 0, host.table() == table,
