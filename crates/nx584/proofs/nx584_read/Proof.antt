@@ -6,6 +6,7 @@ use mathlib.Core.Bool.{true}
 use lib.ListN.{length, length-take}
 use Rattle.reader.specs.declared.Reader.{Reader}
 use Rattle.reader.specs.Read.{readOf, Reads}
+use Rattle.reader.proofs.Arrays.{lent-is-read}
 use Rattle.nx584.specs.Boundary.{readerFor, cReader, cReading, lengthSaid, numbersSaid, soundC}
 use Rattle.nx584.proofs.InC.{c-sound, read-took, read-refused, took-fits, took-c, length-said, said-c}
 use borrow.Author.Needs.{needs}
@@ -20,7 +21,11 @@ sound : (c : tie.Else1) → soundC (c .before .before .before .args .reader) ≡
 sound c = sym (c .before .sound-c .ensures) ∙ not-false _ (c .if1 .left)
 
 told : (c : tie.After-scan) → Reads (readerFor (c .before .before .before .before .before .before .before .args .reader)) (c .before .before .before .before .before .before .before .args .bytes .now) (after c) (c .scan .result .used) (c .scan .result .said)
-told c = rw (c .before .before .before .reader-for .ensures) at (c .scan .ensures)
+told c =
+    let s = c .before .before .before .before .before .before .before in
+    let start = c .before .before .before .reader-for .result in
+    rw (c .before .before .before .reader-for .ensures) at
+    (lent-is-read start (s .args .bytes .now) (after c) (c .scan .result .used) (c .scan .result .said) (search needs) (c .scan .ensures))
 
 fits : (c : tie.After-scan) → (c .scan .result .held ≤ 65535) × (lengthSaid (c .scan .result .said) ≤ 18)
 fits c =
