@@ -1,3 +1,4 @@
 pub mod Skips
 pub mod Plainly
 pub mod Judges
+pub mod Unique

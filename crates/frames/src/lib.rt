@@ -277,11 +277,11 @@ fn judge_whole(frame: &[u8], length: u8) -> Said
     if frame[end + 1] != sums.two {
         return plain(5);
     }
-    let number = messages::check(&frame[1..end]);
+    let checked = messages::check(&frame[1..end]);
     Said::Gave(Verdict {
-        number,
+        number: checked,
         type_byte: frame[1],
-        length: if number == 0 { length } else { 0 },
+        length: if checked == 0 { length } else { 0 },
     })
 }
 

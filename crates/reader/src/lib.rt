@@ -153,8 +153,9 @@ fn stops() -> Decision
 fn starts(framing: Framing) -> Decision
     ensures { λ r. ⌜ Always r (opensIn (Skipping framing)) ⌝ }
 {
+    let mode = Mode::Open(framing);
     Decision {
-        mode: Mode::Open(framing),
+        mode,
         held: 0,
         keep: false,
         byte: 0,

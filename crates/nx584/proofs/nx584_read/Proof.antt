@@ -8,6 +8,7 @@ use lib.ListN.{length, length-take}
 use Rattle.standard.specs.Messages.{longest}
 use Rattle.reader.specs.declared.Reader.{Reader}
 use Rattle.reader.specs.Read.{readOf, Reads}
+use Rattle.reader.proofs.Arrays.{lent-is-read}
 use Rattle.nx584.specs.declared.CReader.{CReader}
 use Rattle.nx584.specs.Boundary.{readerFor, cReader, cReading, lengthSaid, numbersSaid, soundC}
 use Rattle.nx584.proofs.InC.{c-sound, read-took, read-refused, took-fits, took-c, length-said, said-c}
@@ -32,7 +33,11 @@ sound c =
 
 told : (c : tie.After-scan)
     → Reads (readerFor (asked c)) (given c) (after c) (c .scan .result .used) (c .scan .result .said)
-told c = rw (c .before .before .before .before .before .reader-for .ensures) at (c .scan .ensures)
+told c =
+    let made = c .before .before .before .before .before .reader-for in
+    let read = c .scan .result in
+    rw (made .ensures) at
+    (lent-is-read (made .result) (given c) (after c) (read .used) (read .said) (search needs) (c .scan .ensures))
 
 fits : (c : tie.After-scan) → (c .scan .result .held ≤ 65535) × (lengthSaid (c .scan .result .said) ≤ longest)
 fits c =
