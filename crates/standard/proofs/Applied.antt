@@ -46,7 +46,7 @@ pub record Taken (n : ℕ) (t m : List ℕ) : Type 0 where
   pub good : checkOf m ≡ 0
 
 -- its refusal is none
-taken-says : {n : ℕ} {t m : List ℕ} → Taken n t m → applyRefusal t m ≡ 0
+pub taken-says : {n : ℕ} {t m : List ℕ} → Taken n t m → applyRefusal t m ≡ 0
 taken-says {n} {t} {m} k = refusal-after t m ∙ rw (eq-eqb (tableRefusal t) 0 (whole-asked t (k .whole))) (k .good)
 
 -- what is not refused is taken
@@ -88,6 +88,11 @@ applied-has P {n} t m e p q = go (eqb (applyRefusal t m) 0)
 -- every message keeps the length
 pub applied-length : (t m : List ℕ) → length (appliedTo t m) ≡ length t
 applied-length t m = applied-has (λ l. length l ≡ length t) t m refl refl (doneAll-length (writesOf (numberOf (byte 1 m)) m) t)
+
+-- so the table is refused afterwards where it was refused before
+pub applied-refusal : (t m : List ℕ) → tableRefusal (appliedTo t m) ≡ tableRefusal t
+unfolding tableRefusal
+applied-refusal t m = ap (λ n. firstOf ((not (eqb n tableBytes), 11) ∷ [])) (applied-length t m)
 
 -- the same message twice is the message once
 pub applied-twice : (t m : List ℕ) → appliedTo (appliedTo t m) m ≡ appliedTo t m

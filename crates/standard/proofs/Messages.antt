@@ -1,5 +1,5 @@
 -- Laws of the verdict on a message, of the lengths and of the checked values. Assumes nothing.
-use Prim.Native.Nat.{ℕ, _≤_, _<_}
+use Prim.Native.Nat.{ℕ, _%_, _≤_, _<_}
 use native.Mathlib.Nat.{mod-lt}
 use native.Mathlib.Omega.{arith}
 use mathlib.Core.Path.{_≡_, refl, sym, ap, subst, _∙_}
@@ -9,7 +9,7 @@ use mathlib.Core.Logic.{inl, inr}
 use lib.Dec.{eqb, leb, eqb→eq, leb→le, lit<}
 use lib.ListN.{length}
 use types.Run.{OneOf}
-use borrow.Author.Tests.{eqb-true, eqb-false, leb-true, ne-eqb}
+use borrow.Author.Tests.{eqb-true, eqb-false, leb-true, eq-eqb, ne-eqb, le-leb}
 use Rattle.standard.specs.Words.{byte, bit, firstOf}
 use Rattle.standard.specs.Messages.{longest, lengthOk, known, lengthIn, numberOf, lengthFor}
 use Rattle.standard.specs.Messages.{among, clear, x10Ok, clockOk, valuesOk, messageTests, checkOf}
@@ -28,6 +28,9 @@ pub length-ok : (n : ℕ) → lengthOk n ≡ true → Length n
 length-ok n h =
     let x = both-true (leb 1 n) (leb n longest) h in
     record { some = leb-true 1 n (x .0); few = leb-true n longest (x .1) }
+
+ok-length : (n : ℕ) → Length n → lengthOk n ≡ true
+ok-length n h = rw (le-leb 1 n (h .some), le-leb n longest (h .few))
 
 -- what a good message meets
 pub record Passed (m : List ℕ) : Type 0 where
@@ -77,6 +80,15 @@ pub check-after : (t : Bool) (n : ℕ) (m : List ℕ) → firstOf ((t, n) ∷ me
 unfolding checkOf
 check-after t n m = refl
 
+good-by : (a b c d : Bool) → (b ≡ true → ⊥) → (c ≡ true → a ≡ true)
+    → eqb (firstOf ((not a, 4) ∷ (not (not b), 6) ∷ (not c, 7) ∷ (not d, 8) ∷ [])) 0 ≡ (c && d)
+good-by a true c d p q = absurd (p refl)
+good-by true false true true p q = refl
+good-by true false true false p q = refl
+good-by true false false d p q = refl
+good-by false false false d p q = refl
+good-by false false true d p q = let z : _≡_ {A = ℕ} 0 1 = let e = q refl in cc in absurd (omega arith)
+
 -- ---- lengths
 
 -- a recognised type byte's length is that of its number
@@ -88,6 +100,23 @@ length-number t h = go (eqb (bit 6 t) 0) h
         → cond clear (lengthIn known (numberOf t)) 0 ≡ lengthIn known (numberOf t)
     go true h = refl
     go false h = absurd (h refl)
+
+-- a type byte with bit 6 clear asks the length of its lower seven bits, which are its number
+pub low-length : (t n : ℕ) → t % 128 ≡ n → n < 64 → lengthFor t ≡ lengthIn known n
+unfolding lengthFor
+low-length t n e h =
+    let clear : bit 6 t ≡ 0 = omega arith in
+    let number : numberOf t ≡ n = omega arith in
+    rw (eq-eqb (bit 6 t) 0 clear) (ap (lengthIn known) number)
+
+-- the number of a recognised type byte is its lower seven bits
+pub known-low : (t : ℕ) → (lengthFor t ≡ 0 → ⊥) → numberOf t ≡ t % 128
+unfolding lengthFor
+known-low t h = go (eqb (bit 6 t) 0) refl h
+  where
+    go : (clear : Bool) → eqb (bit 6 t) 0 ≡ clear → (cond clear (lengthIn known (numberOf t)) 0 ≡ 0 → ⊥) → numberOf t ≡ t % 128
+    go true e h = let z : bit 6 t ≡ 0 = eqb-true (bit 6 t) 0 e in omega arith
+    go false e h = absurd (h refl)
 
 -- a number is a type byte with bits 6 and 7 clear
 pub number-length : (n : ℕ) → n < 64 → lengthFor n ≡ lengthIn known n
@@ -105,6 +134,15 @@ known-length t h =
 -- a good message has the length of its number
 pub passed-number : (m : List ℕ) (n : ℕ) → Passed m → numberOf (byte 1 m) ≡ n → length m ≡ lengthIn known n
 passed-number m n p e = p .whole ∙ length-number (byte 1 m) (p .known) ∙ ap (lengthIn known) e
+
+-- a message of a recognised number is good where its length and its values are
+pub good : (m : List ℕ) → (lengthFor (byte 1 m) ≡ 0 → ⊥)
+    → eqb (checkOf m) 0 ≡ (eqb (length m) (lengthFor (byte 1 m)) && valuesOk (numberOf (byte 1 m)) m)
+unfolding checkOf
+good m h =
+    good-by (lengthOk (length m)) (eqb (lengthFor (byte 1 m)) 0) (eqb (length m) (lengthFor (byte 1 m)))
+    (valuesOk (numberOf (byte 1 m)) m) (λ e. h (eqb-true (lengthFor (byte 1 m)) 0 e))
+    (λ e. ok-length (length m) (subst Length (sym (eqb-true (length m) (lengthFor (byte 1 m)) e)) (known-length (byte 1 m) h)))
 
 -- ---- checked values
 
@@ -126,7 +164,7 @@ not-among n [] h = refl
 not-among n (k ∷ []) h = rw (ne-eqb n k h) refl
 not-among n (k ∷ j ∷ ks) h = rw (ne-eqb n k (λ e. h (inl e))) (not-among n (j ∷ ks) (λ x. h (inr x)))
 
-and-true : (t : Bool) → (t && true) ≡ t
+pub and-true : (t : Bool) → (t && true) ≡ t
 and-true true = refl
 and-true false = refl
 

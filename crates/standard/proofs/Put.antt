@@ -1,5 +1,5 @@
 -- Laws of `Put`: what a function that puts bytes one after another has done. Assumes nothing.
-use Prim.Native.Nat.{ℕ, suc, _+_, _-_, _≤_, _<_}
+use Prim.Native.Nat.{ℕ, zero, suc, _+_, _-_, _≤_, _<_}
 use native.Mathlib.Nat.{zero-add, add-zero, add-suc, suc-add, add-assoc}
 use native.Mathlib.Numerals.{add-one}
 use native.Mathlib.Omega.{arith}
@@ -91,3 +91,13 @@ copied-from place part buffer {after} h e =
     let short : length part ≤ length lent = simp (length-take, length-drop) (omega arith) in
     let stored = ap (putMid place n buffer) (copied part lent short e) in
     record { bytes = stored ∙ mid-laid place part buffer h ∙ sym (sets-eq part buffer place h); end = refl }
+
+-- the bytes of a part one by one
+abbrev pub listed : ℕ → ℕ → List ℕ → List ℕ
+listed zero k m = []
+listed (suc n) k m = getD m k 0 ∷ listed n (suc k) m
+
+pub part-listed : (n k : ℕ) (m : List ℕ) → k + n ≤ length m → take n (drop k m) ≡ listed n k m
+part-listed zero k m h = refl
+part-listed (suc n) k m h =
+    ap (take (suc n)) (drop-cons m k 0 (omega arith)) ∙ ap (λ l. getD m k 0 ∷ l) (part-listed n (suc k) m (omega arith))

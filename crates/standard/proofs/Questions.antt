@@ -8,7 +8,7 @@ use lib.Dec.{eqb, leb}
 use lib.ListN.{length}
 use borrow.Author.Tests.{eq-eqb, ne-eqb, eqb-true, leb-true}
 use Rattle.standard.specs.Words.{firstOf}
-use Rattle.standard.specs.Table.{tableBytes}
+use Rattle.standard.specs.Table.{tableBytes, isTable}
 use Rattle.standard.specs.Questions.{tableRefusal, partitionRefusal, Answered}
 
 -- ---- refusals
@@ -34,6 +34,15 @@ asked-whole t z = asked-by t 0 (eqb (length t) tableBytes) true refl refl z .0
 pub whole-asked : (t : List ℕ) → length t ≡ tableBytes → tableRefusal t ≡ 0
 unfolding tableRefusal
 whole-asked t h = rw (eq-eqb (length t) tableBytes h)
+
+-- a table is refused exactly where it has another length
+pub whole-is : (t : List ℕ) → eqb (tableRefusal t) 0 ≡ isTable t
+unfolding tableRefusal
+whole-is t = go (isTable t)
+  where
+    go : (whole : Bool) → eqb (firstOf ((not whole, 11) ∷ [])) 0 ≡ whole
+    go true = refl
+    go false = refl
 
 -- 11 comes before 8
 pub partition-after : (t : List ℕ) (partition : ℕ)

@@ -177,6 +177,12 @@ pub mark-run : (place bits : ℕ) (bs t : List ℕ)
 unfolding doneAll
 mark-run place bits bs t = doneAll-run (place + 1) bs (set t place (bitOr (getD t place 0) bits))
 
+-- so a whole record stored at once, its mark first
+pub record-stored : (place bits : ℕ) (bs t : List ℕ)
+    → sets t place (bitOr (getD t place 0) bits ∷ bs) ≡ doneAll (marks place bits ∷ storesFrom (place + 1) bs) t
+record-stored place bits bs t =
+    ap (λ (n : ℕ). sets (set t place (bitOr (getD t place 0) bits)) n bs) (sym (add-one place)) ∙ sym (mark-run place bits bs t)
+
 -- the writes of one record more
 turns-more : (f : ℕ → List Write) (n : ℕ) → flatMap f (upTo (n + 1)) ≡ flatMap f (upTo n) ++ f n
 unfolding flatMap

@@ -2,15 +2,15 @@
 // record of 12, in memory that the host lends. A message is applied to it, and questions about it
 // are answered; only this crate knows where a record stands.
 ghost use mathlib.Core.Path.{_≡_};
-ghost use mathlib.Core.Bool.{cond};
+ghost use mathlib.Core.Bool.{true, cond, _&&_};
 ghost use mathlib.Core.List.{[], flatMap};
-ghost use Prim.Native.Nat.{_+_, _≤_, _<_, max};
+ghost use Prim.Native.Nat.{_+_, _≤_, _<_};
 ghost use lib.Dec.{eqb, leb};
 ghost use lib.ListN.{length, getD, take, drop};
-ghost use lib.Seq.{sets};
 ghost use Rattle.standard.specs.Words.{byte, upTo};
-ghost use Rattle.standard.specs.Table.{tableBytes, zonePlace, partitionPlace, fresh, zoneMark, zoneShort, heardZone, shortFrom, fourBits, zoneWrites, shortWrites, partitionWrites, partitionShort, systemWrites, doneAll, Applied};
+ghost use Rattle.standard.specs.Table.{tableBytes, isTable, zonePlace, partitionPlace, fresh, zoneMark, zoneShort, heardZone, shortFrom, zoneWrites, shortWrites, partitionWrites, partitionShort, systemWrites, doneAll, appliedTo, Applied};
 ghost use Rattle.standard.specs.Questions.{tableRefusal, partitionRefusal, zonePart, partitionPart, systemPart, Answered};
+ghost use Rattle.table.specs.Stored.{storable};
 
 // The answer to a question: 0 and the value, or the refusal's number and 0.
 pub struct Answer {
@@ -55,7 +55,7 @@ fn first_of(first: u8, second: u8) -> u8
 }
 
 // 0, or 11: "table buffer is not 2,132 bytes".
-fn table_refusal(table: &[u8]) -> u8
+pub fn refusal(table: &[u8]) -> u8
     ensures { λ r. ⌜ r ≡ tableRefusal (now (table .entry)) ⌝ }
 {
     if table.len() == TABLE_BYTES { 0 } else { 11 }
@@ -68,43 +68,23 @@ fn check_partition(partition: u8) -> u8
     if partition <= 7 { 0 } else { 8 }
 }
 
-// Stores a run of bytes from a place on.
-fn lay(table: &mut [u8], place: usize, run: &[u8])
-    requires { ⌜ place + length (now run) ≤ length (now table) ⌝ }
-    ensures { λ _. ⌜ now (table .exit) ≡ sets (now (table .entry)) place (now (run .entry)) ⌝ }
+// A flag, where one of some bits is set.
+fn flag(bits: u8, flag: u8) -> u8
+    ensures { λ r. ⌜ r ≡ cond (eqb bits 0) 0 flag ⌝ }
 {
-    let mut j: usize = 0;
-    while j < run.len() {
-        table[place + j] = run[j];
-        j += 1;
-    }
+    if bits == 0 { 0 } else { flag }
 }
 
-// The larger of two bits is 1 where one of them is.
-fn larger(a: u8, b: u8) -> u8
-    ensures { λ r. ⌜ r ≡ max a b ⌝ }
-{
-    if a < b { b } else { a }
-}
-
-// A zone's short flags from its condition flags.
+// A zone's short flags from its condition flags: bypass "from bit 3 or 4", trouble "from bit 1, 2,
+// 5 or 6".
 fn short_from(c1: u8, c2: u8) -> u8
     ensures { λ r. ⌜ r ≡ shortFrom c1 c2 ⌝ }
 {
-    let bypass = larger(c1 / 8 % 2, c1 / 16 % 2);
-    let trouble = larger(
-        larger(c1 / 2 % 2, c1 / 4 % 2),
-        larger(c1 / 32 % 2, c1 / 64 % 2),
-    );
-    c1 % 2 + 2 * bypass + 4 * trouble + 8 * (c2 % 2)
+    c1 % 2 + flag(c1 & 0x18, 2) + flag(c1 & 0x66, 4) + 8 * (c2 % 2)
 }
 
-// The short flags of zone j of sixteen: an even one has the low half of its byte.
-fn four_bits(j: usize, b: u8) -> u8
-    ensures { λ r. ⌜ r ≡ fourBits j b ⌝ }
-{
-    if j % 2 == 0 { b % 16 } else { b / 16 }
-}
+// A record is made whole and then copied: what is read of the message is read before the table
+// changes, so that several bytes go at once.
 
 // 04h "stores its bytes 3-8, sets mark bits 0 and 1, and sets the short flags".
 fn put_zone(table: &mut [u8], message: &[u8])
@@ -112,13 +92,23 @@ fn put_zone(table: &mut [u8], message: &[u8])
     requires { ⌜ length (now message) ≡ 8 ⌝ }
     ensures { λ _. ⌜ now (table .exit) ≡ doneAll (zoneWrites (now (message .entry))) (now (table .entry)) ⌝ }
 {
-    let at = zone_place(message[1] as usize);
-    table[at] = table[at] | 3;
-    lay(table, at + 1, &message[2..8]);
-    table[at + 7] = short_from(message[6], message[7]);
+    let place = zone_place(message[1] as usize);
+    let short = short_from(message[6], message[7]);
+    let fields = [
+        table[place] | 3,
+        message[2],
+        message[3],
+        message[4],
+        message[5],
+        message[6],
+        message[7],
+        short,
+    ];
+    bytes::copy(&fields, &mut table[place..]);
 }
 
-// 05h "sets short flags .. and mark bit 0 of its 16 zones, nothing else of them".
+// 05h "sets short flags .. and mark bit 0 of its 16 zones, nothing else of them": two zones a byte,
+// the first in its low half.
 fn put_zones(table: &mut [u8], message: &[u8])
     requires { ⌜ length (now table) ≡ tableBytes ⌝ }
     requires { ⌜ length (now message) ≡ 10 ⌝ }
@@ -127,10 +117,13 @@ fn put_zones(table: &mut [u8], message: &[u8])
 {
     let first = message[1] as usize;
     let mut j: usize = 0;
-    while j < 16 {
-        let at = zone_place(first + j);
-        table[at] = table[at] | 1;
-        table[at + 7] = four_bits(j, message[2 + j / 2]);
+    while j < 8 {
+        let place = zone_place(first + 2 * j);
+        let both = message[2 + j];
+        table[place] = table[place] | 1;
+        table[place + 7] = both % 16;
+        table[place + 8] = table[place + 8] | 1;
+        table[place + 15] = both / 16;
         j += 1;
     }
 }
@@ -142,9 +135,18 @@ fn put_partition(table: &mut [u8], message: &[u8])
     requires { ⌜ byte 2 (now message) ≤ 7 ⌝ }
     ensures { λ _. ⌜ now (table .exit) ≡ doneAll (partitionWrites (now (message .entry))) (now (table .entry)) ⌝ }
 {
-    let at = partition_place(message[1] as usize);
-    table[at] = table[at] | 2;
-    lay(table, at + 1, &message[2..9]);
+    let place = partition_place(message[1] as usize);
+    let fields = [
+        table[place] | 2,
+        message[2],
+        message[3],
+        message[4],
+        message[5],
+        message[6],
+        message[7],
+        message[8],
+    ];
+    bytes::copy(&fields, &mut table[place..]);
 }
 
 // 07h "sets all eight short bytes and mark bit 0 of each".
@@ -155,9 +157,9 @@ fn put_partitions(table: &mut [u8], message: &[u8])
 {
     let mut p: usize = 0;
     while p < 8 {
-        let at = partition_place(p);
-        table[at] = table[at] | 1;
-        table[at + 8] = message[1 + p];
+        let place = partition_place(p);
+        table[place] = table[place] | 1;
+        table[place + 8] = message[1 + p];
         p += 1;
     }
 }
@@ -168,29 +170,92 @@ fn put_system(table: &mut [u8], message: &[u8])
     requires { ⌜ length (now message) ≡ 12 ⌝ }
     ensures { λ _. ⌜ now (table .exit) ≡ doneAll (systemWrites (now (message .entry))) (now (table .entry)) ⌝ }
 {
-    table[SYSTEM_PLACE] = 1;
-    lay(table, SYSTEM_PLACE + 1, &message[1..12]);
+    let fields = [
+        1,
+        message[1],
+        message[2],
+        message[3],
+        message[4],
+        message[5],
+        message[6],
+        message[7],
+        message[8],
+        message[9],
+        message[10],
+        message[11],
+    ];
+    bytes::copy(&fields, &mut table[SYSTEM_PLACE..]);
 }
 
-// Applies a message: 0, or the refusal's number, and then the table stays.
-pub fn apply(table: &mut [u8], message: &[u8]) -> u8
-    ensures { λ r. ⌜ Applied (now (table .entry)) (now (message .entry)) r (now (table .exit)) ⌝ }
+// Whether a message is good and one of the five that the table stores, 04h to 08h: no more is asked
+// of it than `messages::check` would ask of these.
+fn is_stored(message: &[u8]) -> bool
+    ensures { λ r. ⌜ r ≡ storable (now (message .entry)) ⌝ }
 {
-    // A part of the message is handed on in registers, where the message as it came would be copied.
     let n = message.len();
-    let number = first_of(table_refusal(table), messages::check(&message[..n]));
-    if number != 0 {
-        return number;
+    if n == 0 {
+        return false;
     }
+    // A number with bit 6 set is none of them.
+    match message[0] % 128 {
+        0x04 => n == messages::length_for(0x04) as usize,
+        0x05 => n == messages::length_for(0x05) as usize && message[1] <= 240,
+        0x06 => n == messages::length_for(0x06) as usize && message[1] <= 7,
+        0x07 => n == messages::length_for(0x07) as usize,
+        0x08 => n == messages::length_for(0x08) as usize,
+        _ => false,
+    }
+}
+
+// The writes of one of the five.
+fn put(table: &mut [u8], message: &[u8])
+    requires { ⌜ length (now table) ≡ tableBytes ⌝ }
+    requires { ⌜ storable (now message) ≡ true ⌝ }
+    ensures { λ _. ⌜ now (table .exit) ≡ appliedTo (now (table .entry)) (now (message .entry)) ⌝ }
+{
     match message[0] % 64 {
         0x04 => put_zone(table, message),
         0x05 => put_zones(table, message),
         0x06 => put_partition(table, message),
         0x07 => put_partitions(table, message),
-        0x08 => put_system(table, message),
-        _ => {}
+        _ => put_system(table, message),
     }
-    0
+}
+
+// Stores a message, and says whether it was one of the five, good, and for a whole table.
+fn stores(table: &mut [u8], message: &[u8]) -> bool
+    ensures { λ r. ⌜ r ≡ (isTable (now (table .entry)) && storable (now (message .entry))) ⌝ }
+    ensures { λ _. ⌜ now (table .exit) ≡ appliedTo (now (table .entry)) (now (message .entry)) ⌝ }
+{
+    if refusal(table) != 0 {
+        return false;
+    }
+    // A part of the message is handed on in registers, where the message as it came would be copied.
+    let n = message.len();
+    if is_stored(&message[..n]) {
+        put(table, message);
+        return true;
+    }
+    false
+}
+
+// What `apply` leaves of the table, where no number is asked: nothing changes where it refuses.
+pub fn store(table: &mut [u8], message: &[u8])
+    ensures { λ _. ⌜ now (table .exit) ≡ appliedTo (now (table .entry)) (now (message .entry)) ⌝ }
+{
+    stores(table, message);
+}
+
+// Applies a message: 0, or the refusal's number, and then the table stays. What is stored is good,
+// so that the message is checked in full only where nothing is stored.
+pub fn apply(table: &mut [u8], message: &[u8]) -> u8
+    ensures { λ r. ⌜ Applied (now (table .entry)) (now (message .entry)) r (now (table .exit)) ⌝ }
+{
+    let n = message.len();
+    if stores(table, &message[..n]) {
+        return 0;
+    }
+    first_of(refusal(table), messages::check(&message[..n]))
 }
 
 // A byte of a zone's record.
@@ -198,17 +263,17 @@ fn zone_byte(table: &[u8], zone: u8, on: usize) -> Answer
     requires { ⌜ on < 8 ⌝ }
     ensures { λ r. ⌜ Answered 0 (tableRefusal (now (table .entry))) (getD (now (table .entry)) (zonePlace zone + on) 0) (r .number) (r .value) ⌝ }
 {
-    let number = table_refusal(table);
+    let number = refusal(table);
     if number != 0 {
         return Answer {
             number: number,
             value: 0,
         };
     }
-    let at = zone_place(zone as usize) + on;
+    let place = zone_place(zone as usize) + on;
     Answer {
         number: 0,
-        value: table[at],
+        value: table[place],
     }
 }
 
@@ -253,7 +318,7 @@ fn part_of(table: &[u8], number: u8, place: usize, bytes: usize) -> &[u8]
 pub fn zone_part<'a>(table: &'a [u8], zone: u8, number: &mut u8) -> &'a [u8]
     ensures { λ r. ⌜ Answered [] (tableRefusal (now (table .entry))) (zonePart (now (table .entry)) zone) (now (number .exit)) (now r) ⌝ }
 {
-    let refused = table_refusal(table);
+    let refused = refusal(table);
     *number = refused;
     part_of(table, refused, zone_place(zone as usize) + 1, 6)
 }
@@ -262,7 +327,7 @@ pub fn zone_part<'a>(table: &'a [u8], zone: u8, number: &mut u8) -> &'a [u8]
 pub fn partition_part<'a>(table: &'a [u8], partition: u8, number: &mut u8) -> &'a [u8]
     ensures { λ r. ⌜ Answered [] (partitionRefusal (now (table .entry)) partition) (partitionPart (now (table .entry)) partition) (now (number .exit)) (now r) ⌝ }
 {
-    let refused = first_of(table_refusal(table), check_partition(partition));
+    let refused = first_of(refusal(table), check_partition(partition));
     *number = refused;
     part_of(table, refused, partition_place(partition as usize), 9)
 }
@@ -271,7 +336,7 @@ pub fn partition_part<'a>(table: &'a [u8], partition: u8, number: &mut u8) -> &'
 pub fn system_part<'a>(table: &'a [u8], number: &mut u8) -> &'a [u8]
     ensures { λ r. ⌜ Answered [] (tableRefusal (now (table .entry))) (systemPart (now (table .entry))) (now (number .exit)) (now r) ⌝ }
 {
-    let refused = table_refusal(table);
+    let refused = refusal(table);
     *number = refused;
     part_of(table, refused, SYSTEM_PLACE, 12)
 }

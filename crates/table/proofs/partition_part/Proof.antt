@@ -15,11 +15,11 @@ number : (c : tie.After-first-of) → let a = c .before .before .before .before 
 number c =
     let a = c .before .before .before .before .args in
     c .first-of .ensures
-    ∙ ap₂ (λ (x y : ℕ). cond (eqb x 0) y x) (c .before .before .table-refusal .ensures) (c .before .check-partition .ensures)
+    ∙ ap₂ (λ (x y : ℕ). cond (eqb x 0) y x) (c .before .before .refusal .ensures) (c .before .check-partition .ensures)
     ∙ sym (partition-after (a .table .now) (a .partition))
 
-table-refusal-requires : tie.Need-table-refusal-requires
-table-refusal-requires c κs = search needs
+refusal-requires : tie.Need-refusal-requires
+refusal-requires c κs = search needs
 
 check-partition-requires : tie.Need-check-partition-requires
 check-partition-requires c κs = search needs
@@ -44,7 +44,7 @@ pub partition-part-spec : {M : Type 1} → statement M
 partition-part-spec =
     tie.close
     (tie.spec
-    table-refusal-requires
+    refusal-requires
     check-partition-requires
     first-of-requires
     partition-place-requires

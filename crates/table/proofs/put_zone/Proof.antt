@@ -1,46 +1,43 @@
--- `table::put_zone` meets its contract: a mark, a run of the message's own bytes after it, and the short flags at its end. Assumes nothing.
-use Prim.Native.Nat.{ℕ, _+_}
+-- `table::put_zone` meets its contract: the zone's record, made whole, is stored from its mark on. Assumes nothing.
+use Prim.Native.Nat.{ℕ, _+_, _≤_, _<_}
 use native.Mathlib.Omega.{arith}
-use mathlib.Core.Path.{_≡_, sym, ap, ap₂, _∙_}
-use mathlib.Core.List.{List, [], _∷_, _++_}
+use mathlib.Core.Path.{_≡_, ap₂, _∙_}
+use mathlib.Core.List.{List, [], _∷_}
 use lib.Bits.{bitOr}
-use lib.ListN.{length, getD, take, drop, set, length-set, length-take, length-drop}
-use lib.Seq.{sets, drop-cons}
+use lib.ListN.{length, getD, length-take, length-drop}
+use lib.Seq.{sets}
 use borrow.Author.Needs.{needs}
 use Rattle.standard.specs.Words.{byte}
-use Rattle.standard.specs.Table.{zonePlace, shortFrom, zoneWrites, doneAll}
-use Rattle.standard.proofs.Put.{sets-append}
-use Rattle.standard.proofs.Table.{mark-run}
+use Rattle.standard.specs.Table.{tableBytes, zonePlace, shortFrom, zoneWrites, doneAll}
+use Rattle.standard.proofs.Put.{copied-from}
+use Rattle.standard.proofs.Table.{record-stored}
 use Rattle.standard.proofs.Applied.{zoneRun}
 use Rattle.table.proofs.put_zone.Statement.{statement}
 use Rattle.table.proofs.put_zone.Tie as tie
 
--- what is stored is a run of the message's bytes, and one byte more
-run-of : (m : List ℕ) → length m ≡ 8 → take 6 (drop 2 m) ++ (shortFrom (byte 7 m) (byte 8 m) ∷ []) ≡ zoneRun m
-run-of m h =
-    rw (
-      drop-cons m 2 0 (omega arith),
-      drop-cons m 3 0 (omega arith),
-      drop-cons m 4 0 (omega arith),
-      drop-cons m 5 0 (omega arith),
-      drop-cons m 6 0 (omega arith),
-      drop-cons m 7 0 (omega arith),
-    )
+-- the record, at a place and with short flags
+abbrev fields : List ℕ → List ℕ → ℕ → ℕ → List ℕ
+fields t m p s = bitOr (getD t p 0) 3 ∷ byte 3 m ∷ byte 4 m ∷ byte 5 m ∷ byte 6 m ∷ byte 7 m ∷ byte 8 m ∷ s ∷ []
 
-stored : (t m : List ℕ) {last : List ℕ} {at s : ℕ} → length m ≡ 8 → at ≡ zonePlace (byte 2 m) → s ≡ shortFrom (byte 7 m) (byte 8 m)
-    → last ≡ sets (set t at (bitOr (getD t at 0) 3)) (at + 1) (take 6 (drop 2 m)) → set last (at + 7) s ≡ doneAll (zoneWrites m) t
-stored t m {last} {at} {s} h p q e =
-    let place = zonePlace (byte 2 m) in
-    let run = take 6 (drop 2 m) in
-    let short = shortFrom (byte 7 m) (byte 8 m) in
-    let marked = set t place (bitOr (getD t place 0) 3) in
-    let end : place + 7 ≡ place + 1 + length run = simp (length-take, length-drop) (omega arith) in
-    ap₂ (λ (l : List ℕ) (b : ℕ). set l (at + 7) b) e q
-    ∙ ap (λ (a : ℕ). set (sets (set t a (bitOr (getD t a 0) 3)) (a + 1) run) (a + 7) short) p
-    ∙ ap (λ (i : ℕ). set (sets marked (place + 1) run) i short) end
-    ∙ sym (sets-append marked (place + 1) run (short ∷ []))
-    ∙ ap (sets marked (place + 1)) (run-of m h)
-    ∙ sym (mark-run place 3 (zoneRun m) t)
+stored : (t m : List ℕ) {p s : ℕ} → p ≡ zonePlace (byte 2 m) → s ≡ shortFrom (byte 7 m) (byte 8 m)
+    → sets t p (fields t m p s) ≡ doneAll (zoneWrites m) t
+stored t m e f =
+    ap₂ (λ (p s : ℕ). sets t p (fields t m p s)) e f
+    ∙ record-stored (zonePlace (byte 2 m)) 3 (zoneRun m) t
+
+-- the places of the code that speak of what was handed in and of the zone's place
+abbrev placed : tie.After-short-from → tie.After-zone-place
+placed c = c .before .before .before
+
+abbrev made : tie.After-fields → tie.After-short-from
+made c = c .before .before .before .before .before .before .before .before
+
+abbrev start : tie.After-zone-place → tie.Start
+start c = c .before .before .before .before
+
+-- the record lies within the table
+fits : (c : tie.After-zone-place) → c .zone-place .result + 8 ≤ tableBytes
+fits c = let e = c .zone-place .ensures in omega (arith, c .before .shared-slice-known2 .given 1)
 
 shared-slice-read-zone-place : tie.Need-shared-slice-read-zone-place
 shared-slice-read-zone-place c = search needs
@@ -51,29 +48,6 @@ cast-zone-place c = omega (arith, c .shared-slice-known2 .given 1)
 zone-place-requires : tie.Need-zone-place-requires
 zone-place-requires c κs = omega (arith, c .shared-slice-known2 .given 1)
 
-slice-read-table : tie.Need-slice-read-table
-slice-read-table c = omega (arith, c .before .before .shared-slice-known2 .given 1)
-
-slice-write-table : tie.Need-slice-write-table
-slice-write-table c = omega (arith, c .before .before .shared-slice-known2 .given 1)
-
-add-lay : tie.Need-add-lay
-add-lay c = search needs
-
-sub-lay : tie.Need-sub-lay
-sub-lay c = search needs
-
-part-lay-start : tie.Need-part-lay-start
-part-lay-start c = search needs
-
-part-lay-end : tie.Need-part-lay-end
-part-lay-end c = search needs
-
-lay-requires : tie.Need-lay-requires
-lay-requires c κs =
-    let b = c .before .before .before .before .shared-slice-known2 .given 1 in
-    simp (length-set, length-take, length-drop) (omega arith)
-
 shared-slice-read-short-from : tie.Need-shared-slice-read-short-from
 shared-slice-read-short-from c = search needs
 
@@ -83,23 +57,58 @@ shared-slice-read-short-from-2 c = search needs
 short-from-requires : tie.Need-short-from-requires
 short-from-requires c κs = search needs
 
-add-table : tie.Need-add-table
-add-table c = search needs
+slice-read-t7 : tie.Need-slice-read-t7
+slice-read-t7 c = let h = fits (placed (c .before)) in let w = start (placed (c .before)) .pre .0 in omega arith
 
-slice-write-table-2 : tie.Need-slice-write-table-2
-slice-write-table-2 c =
-    let b = c .before .before .before .before .before .before .before .before .before .before .shared-slice-known2 .given 1 in
-    let h = simp length-set at (c .before .before .before .before .before .lay .kept .0) in
-    omega arith
+shared-slice-read-t14 : tie.Need-shared-slice-read-t14
+shared-slice-read-t14 c = search needs
+
+shared-slice-read-t16 : tie.Need-shared-slice-read-t16
+shared-slice-read-t16 c = search needs
+
+shared-slice-read-t18 : tie.Need-shared-slice-read-t18
+shared-slice-read-t18 c = search needs
+
+shared-slice-read-t20 : tie.Need-shared-slice-read-t20
+shared-slice-read-t20 c = search needs
+
+shared-slice-read-t22 : tie.Need-shared-slice-read-t22
+shared-slice-read-t22 c = search needs
+
+shared-slice-read-t24 : tie.Need-shared-slice-read-t24
+shared-slice-read-t24 c = search needs
+
+slice-aggregate-copy : tie.Need-slice-aggregate-copy
+slice-aggregate-copy c = search needs
+
+sub-copy : tie.Need-sub-copy
+sub-copy c = let h = fits (placed (made c)) in let w = start (placed (made c)) .pre .0 in omega arith
+
+part-copy-start : tie.Need-part-copy-start
+part-copy-start c = let h = fits (placed (made c)) in let w = start (placed (made c)) .pre .0 in omega arith
+
+part-copy-end : tie.Need-part-copy-end
+part-copy-end c = search needs
+
+copy-requires : tie.Need-copy-requires
+copy-requires c κs = let h = fits (placed (made (c .before))) in
+    let w = start (placed (made (c .before))) .pre .0 in
+    simp (length-take, length-drop) (omega arith)
 
 same-length : tie.Need-same-length
-same-length c = simp length-set (c .before .before .before .before .before .lay .kept .0 ∙ simp length-set)
+same-length c = search needs
 
 returns : tie.Need-returns
-returns c =
-    let call = c .before .before .before .before .before in
-    let start = call .before .before .before .before .before .before .before .before in
-    stored (start .args .table .now) (start .args .message .now) (start .pre .1) (call .before .before .before .before .zone-place .ensures) (c .short-from .ensures) (call .lay .ensures)
+returns c = let copy = c .before .before in
+    let at = made (copy .before .before) in
+    let s = start (placed at) in
+    let t = s .args .table .now in
+    let m = s .args .message .now in
+    let p = placed at .zone-place .result in
+    let h = fits (placed at) in
+    let w = s .pre .0 in
+    copied-from p (fields t m p (at .short-from .result)) t (omega arith) (copy .copy .ensures .1) .bytes
+    ∙ stored t m (placed at .zone-place .ensures) (at .short-from .ensures)
 
 pub put-zone-spec : {M : Type 1} → statement M
 put-zone-spec =
@@ -108,17 +117,20 @@ put-zone-spec =
     shared-slice-read-zone-place
     cast-zone-place
     zone-place-requires
-    slice-read-table
-    slice-write-table
-    add-lay
-    sub-lay
-    part-lay-start
-    part-lay-end
-    lay-requires
     shared-slice-read-short-from
     shared-slice-read-short-from-2
     short-from-requires
-    add-table
-    slice-write-table-2
+    slice-read-t7
+    shared-slice-read-t14
+    shared-slice-read-t16
+    shared-slice-read-t18
+    shared-slice-read-t20
+    shared-slice-read-t22
+    shared-slice-read-t24
+    slice-aggregate-copy
+    sub-copy
+    part-copy-start
+    part-copy-end
+    copy-requires
     same-length
     returns)

@@ -6,14 +6,14 @@ use Rattle.standard.proofs.Questions.{asked-whole, answer-by}
 use Rattle.table.proofs.system_part.Statement.{statement}
 use Rattle.table.proofs.system_part.Tie as tie
 
-table-refusal-requires : tie.Need-table-refusal-requires
-table-refusal-requires c κs = search needs
+refusal-requires : tie.Need-refusal-requires
+refusal-requires c κs = search needs
 
 part-of-requires : tie.Need-part-of-requires
-part-of-requires c κs = λ z. let h = asked-whole (c .before .before .args .table .now) (sym (c .table-refusal .ensures) ∙ z) in omega arith
+part-of-requires c κs = λ z. let h = asked-whole (c .before .before .args .table .now) (sym (c .refusal .ensures) ∙ z) in omega arith
 
 returns : tie.Need-returns
-returns c = answer-by (c .before .table-refusal .ensures) (c .part-of .ensures)
+returns c = answer-by (c .before .refusal .ensures) (c .part-of .ensures)
 
 pub system-part-spec : {M : Type 1} → statement M
-system-part-spec = tie.close (tie.spec table-refusal-requires part-of-requires returns)
+system-part-spec = tie.close (tie.spec refusal-requires part-of-requires returns)

@@ -6,28 +6,28 @@ use Rattle.standard.proofs.Questions.{asked-whole, answer-refused, answer-given
 use Rattle.table.proofs.zone_byte.Statement.{statement}
 use Rattle.table.proofs.zone_byte.Tie as tie
 
-table-refusal-requires : tie.Need-table-refusal-requires
-table-refusal-requires c κs = search needs
+refusal-requires : tie.Need-refusal-requires
+refusal-requires c κs = search needs
 
 returns : tie.Need-returns
-returns c = answer-refused (c .before .table-refusal .ensures) (c .if1 .taken)
+returns c = answer-refused (c .before .refusal .ensures) (c .if1 .taken)
 
 zone-place-requires : tie.Need-zone-place-requires
 zone-place-requires c κs = search needs
 
-add-at : tie.Need-add-at
-add-at c = search needs
+add-place : tie.Need-add-place
+add-place c = search needs
 
 shared-slice-read-t10 : tie.Need-shared-slice-read-t10
 shared-slice-read-t10 c =
     let start = c .before .before .before .before .before in
-    let h = asked-whole (start .args .table .now) (sym (c .before .before .before .table-refusal .ensures) ∙ c .before .before .if1 .left) in
+    let h = asked-whole (start .args .table .now) (sym (c .before .before .before .refusal .ensures) ∙ c .before .before .if1 .left) in
     omega arith
 
 returns-2 : tie.Need-returns-2
-returns-2 c = rw (c .before .zone-place .ensures) (answer-given (c .before .before .before .table-refusal .ensures) (c .before .before .if1 .left))
+returns-2 c = rw (c .before .zone-place .ensures) (answer-given (c .before .before .before .refusal .ensures) (c .before .before .if1 .left))
 
 pub zone-byte-spec : {M : Type 1} → statement M
 zone-byte-spec =
     tie.close
-    (tie.spec table-refusal-requires returns zone-place-requires add-at shared-slice-read-t10 returns-2)
+    (tie.spec refusal-requires returns zone-place-requires add-place shared-slice-read-t10 returns-2)

@@ -6,8 +6,8 @@ use Rattle.standard.proofs.Questions.{asked-whole, answer-by}
 use Rattle.table.proofs.zone_part.Statement.{statement}
 use Rattle.table.proofs.zone_part.Tie as tie
 
-table-refusal-requires : tie.Need-table-refusal-requires
-table-refusal-requires c κs = search needs
+refusal-requires : tie.Need-refusal-requires
+refusal-requires c κs = search needs
 
 zone-place-requires : tie.Need-zone-place-requires
 zone-place-requires c κs = search needs
@@ -16,11 +16,11 @@ add-part-of : tie.Need-add-part-of
 add-part-of c = search needs
 
 part-of-requires : tie.Need-part-of-requires
-part-of-requires c κs = λ z. let h = asked-whole (c .before .before .before .args .table .now) (sym (c .before .table-refusal .ensures) ∙ z) in omega arith
+part-of-requires c κs = λ z. let h = asked-whole (c .before .before .before .args .table .now) (sym (c .before .refusal .ensures) ∙ z) in omega arith
 
 returns : tie.Need-returns
-returns c = answer-by (c .before .before .table-refusal .ensures) (rw (c .before .zone-place .ensures) at (c .part-of .ensures))
+returns c = answer-by (c .before .before .refusal .ensures) (rw (c .before .zone-place .ensures) at (c .part-of .ensures))
 
 pub zone-part-spec : {M : Type 1} → statement M
 zone-part-spec =
-    tie.close (tie.spec table-refusal-requires zone-place-requires add-part-of part-of-requires returns)
+    tie.close (tie.spec refusal-requires zone-place-requires add-part-of part-of-requires returns)

@@ -1,10 +1,10 @@
--- `table::table_refusal` meets its contract: the test is the definition's own. Assumes nothing.
+-- `table::refusal` meets its contract: the test is the definition's own. Assumes nothing.
 use lib.ListN.{length}
 use borrow.Author.Tests.{eq-eqb, ne-eqb}
 use Rattle.standard.specs.Table.{tableBytes}
 use Rattle.standard.specs.Questions.{tableRefusal}
-use Rattle.table.proofs.table_refusal.Statement.{statement}
-use Rattle.table.proofs.table_refusal.Tie as tie
+use Rattle.table.proofs.refusal.Statement.{statement}
+use Rattle.table.proofs.refusal.Tie as tie
 
 returns : tie.Need-returns
 unfolding tableRefusal
@@ -14,5 +14,5 @@ returns-2 : tie.Need-returns-2
 unfolding tableRefusal
 returns-2 c = rw (ne-eqb (length (c .before .args .table .now)) tableBytes (c .if1 .left))
 
-pub table-refusal-spec : {M : Type 1} → statement M
-table-refusal-spec = tie.close (tie.spec returns returns-2)
+pub refusal-spec : {M : Type 1} → statement M
+refusal-spec = tie.close (tie.spec returns returns-2)
