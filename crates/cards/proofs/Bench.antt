@@ -11,7 +11,6 @@ use Rattle.standard.specs.Table.{fresh, storesFrom, writesOf, doneAll, applyRef
 use Rattle.cards.specs.Cards.{cards, toldOf}
 
 pub bench : map (λ c. toldOf (c .line)) cards ≡ map (λ c. c .told) cards
-unfolding cards flatMap upTo total prefixes sumsOf lengthFor valuesOk unstuff digitsOf pairs wholeOf replyOf
-
-unfolding fresh storesFrom writesOf doneAll applyRefusal appliedTo tableAfter
+unfolding cards flatMap upTo total prefixes sumsOf lengthFor valuesOk unstuff digitsOf pairs wholeOf replyOf fresh
+    storesFrom writesOf doneAll applyRefusal appliedTo tableAfter
 bench = refl

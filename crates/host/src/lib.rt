@@ -53,7 +53,7 @@ fn store(table: &mut [u8], verdict: Verdict, frame: &[u8])
 {
     if verdict.number == 0 {
         let end = verdict.length as usize + 1;
-        table::apply(table, &frame[1..end]);
+        table::store(table, &frame[1..end]);
     }
 }
 

@@ -338,7 +338,7 @@ fn store(table: &mut [u8], reading: CReading)
     let message = reading.message;
     let n = reading.length as usize;
     if reading.verdict == 0 {
-        table::apply(table, &message[..n]);
+        table::store(table, &message[..n]);
     }
 }
 

@@ -15,19 +15,19 @@ cast-end c = search needs
 add-end : tie.Need-add-end
 add-end c = search needs
 
-sub-apply : tie.Need-sub-apply
-sub-apply c = search needs
+sub-store : tie.Need-sub-store
+sub-store c = search needs
 
-part-apply-start : tie.Need-part-apply-start
-part-apply-start c = search needs
+part-store-start : tie.Need-part-store-start
+part-store-start c = search needs
 
-part-apply-end : tie.Need-part-apply-end
-part-apply-end c =
+part-store-end : tie.Need-part-store-end
+part-store-end c =
     let test = c .before .before in
     omega (arith, test .before .before .before .before .pre (test .if1 .taken))
 
-apply-requires : tie.Need-apply-requires
-apply-requires c κs = search needs
+store-requires : tie.Need-store-requires
+store-requires c κs = search needs
 
 same-length : tie.Need-same-length
 same-length c = search needs
@@ -40,7 +40,7 @@ returns c =
     let start = test .before .before .before .before in
     let v = start .args .verdict in
     let same : v .length + 1 - 1 ≡ v .length = omega arith in
-    put .apply .ensures .leaves
+    put .store .ensures
     ∙ ap (λ (n : ℕ). appliedTo (start .args .table .now) (take n (drop 1 (start .args .frame .now)))) same
     ∙ sym (rw (eq-eqb _ _ (test .if1 .taken)))
 
@@ -54,10 +54,10 @@ store-spec =
     (tie.spec
     cast-end
     add-end
-    sub-apply
-    part-apply-start
-    part-apply-end
-    apply-requires
+    sub-store
+    part-store-start
+    part-store-end
+    store-requires
     same-length
     returns
     returns-2)

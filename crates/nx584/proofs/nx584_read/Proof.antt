@@ -7,7 +7,7 @@ use mathlib.Core.List.{List}
 use lib.ListN.{length, length-take}
 use Rattle.standard.specs.Messages.{longest}
 use Rattle.reader.specs.declared.Reader.{Reader}
-use Rattle.reader.specs.Read.{readOf, Reads}
+use Rattle.reader.specs.Read.{readOf, Reads, Lent}
 use Rattle.reader.proofs.Arrays.{lent-is-read}
 use Rattle.nx584.specs.declared.CReader.{CReader}
 use Rattle.nx584.specs.Boundary.{readerFor, cReader, cReading, lengthSaid, numbersSaid, soundC}
@@ -34,10 +34,13 @@ sound c =
 told : (c : tie.After-scan)
     → Reads (readerFor (asked c)) (given c) (after c) (c .scan .result .used) (c .scan .result .said)
 told c =
-    let made = c .before .before .before .before .before .reader-for in
+    let r = readerFor (asked c) in
     let read = c .scan .result in
-    rw (made .ensures) at
-    (lent-is-read (made .result) (given c) (after c) (read .used) (read .said) (search needs) (c .scan .ensures))
+    let sized : length (r .bytes) ≡ longest + 3 = search needs in
+    let lent : Lent r (given c) (after c) (read .used) (read .said) =
+    rw (c .before .before .before .before .before .reader-for .ensures) at (c .scan .ensures)
+    in
+    lent-is-read r (given c) (after c) (read .used) (read .said) sized lent
 
 fits : (c : tie.After-scan) → (c .scan .result .held ≤ 65535) × (lengthSaid (c .scan .result .said) ≤ longest)
 fits c =

@@ -17,21 +17,21 @@ array-share-prefix-message c =
     let size : length (s .args .reading .message) ≡ 18 = search needs in
     omega (arith, s .pre)
 
-slice-aggregate-apply : tie.Need-slice-aggregate-apply
-slice-aggregate-apply c =
+slice-aggregate-store : tie.Need-slice-aggregate-store
+slice-aggregate-store c =
     let s = c .before .before .before .before .before .before .before in
     let size : length (s .args .reading .message) ≡ 18 = search needs in
     sym (length-take-le _ _ (omega (arith, s .pre)))
 
-apply-requires : tie.Need-apply-requires
-apply-requires c κs = search needs
+store-requires : tie.Need-store-requires
+store-requires c κs = search needs
 
 same-length : tie.Need-same-length
 same-length c = search needs
 
 returns : tie.Need-returns
 returns c =
-    rw (eq-eqb _ _ (c .before .before .before .before .before .if1 .taken)) (c .before .before .apply .ensures .leaves)
+    rw (eq-eqb _ _ (c .before .before .before .before .before .if1 .taken)) (c .before .before .store .ensures)
 
 returns-2 : tie.Need-returns-2
 returns-2 c = rw (ne-eqb _ _ (c .if1 .left))
@@ -42,8 +42,8 @@ store-spec =
     (tie.spec
     cast-n
     array-share-prefix-message
-    slice-aggregate-apply
-    apply-requires
+    slice-aggregate-store
+    store-requires
     same-length
     returns
     returns-2)
