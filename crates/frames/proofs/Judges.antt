@@ -1,4 +1,5 @@
--- The verdict on a whole frame as the code comes to it: from the sums and the check of the message, by places in the frame's bytes. Assumes nothing.
+-- The verdict on a whole frame as the code comes to it: from the sums and the check of the message, by places in the
+-- frame's bytes. Assumes nothing.
 use Prim.Native.Nat.{ℕ, _+_, _-_, _<_}
 use native.Mathlib.Numerals.{add-one}
 use native.Mathlib.Omega.{arith}
@@ -34,7 +35,8 @@ carries m h =
     (not (valuesOk (numberOf (byte 1 m)) m)))
 
 -- the judgement by the sums, then by the message
-judged : (L : ℕ) (rest : List ℕ) → judgedOf (L ∷ rest) ≡ handing (cond (sumsDiffer L rest) 5 (checkOf (take L rest))) (take L rest)
+judged : (L : ℕ) (rest : List ℕ)
+    → judgedOf (L ∷ rest) ≡ handing (cond (sumsDiffer L rest) 5 (checkOf (take L rest))) (take L rest)
 unfolding wholeOf
 judged L rest = ap (λ n. handing n (take L rest)) (check-after (sumsDiffer L rest) 5 (take L rest))
 
@@ -55,12 +57,14 @@ front : (L : ℕ) (rest : List ℕ) → take (L + 1) (L ∷ rest) ≡ L ∷ take
 front L rest = ap (λ n. take n (L ∷ rest)) (add-one L)
 
 -- the sums differ
-pub wrong-one : (frame : List ℕ) → Complete frame → (getD frame (end frame) 0 ≡ summed frame .one → ⊥) → verdictFor (handing 5 []) ≡ verdictFor (judgedOf frame)
+pub wrong-one : (frame : List ℕ) → Complete frame → (getD frame (end frame) 0 ≡ summed frame .one → ⊥)
+    → verdictFor (handing 5 []) ≡ verdictFor (judgedOf frame)
 wrong-one [] w h = absurd (omega (arith, w .all))
 wrong-one (L ∷ rest) w h =
     rw (judged L rest, ne-eqb (getD rest L 0) (sumsOf (L ∷ take L rest) .one) (rw (place L L rest, front L rest) at h))
 
-pub wrong-two : (frame : List ℕ) → Complete frame → getD frame (end frame) 0 ≡ summed frame .one → (getD frame (end frame + 1) 0 ≡ summed frame .two → ⊥)
+pub wrong-two : (frame : List ℕ) → Complete frame → getD frame (end frame) 0 ≡ summed frame .one
+    → (getD frame (end frame + 1) 0 ≡ summed frame .two → ⊥)
     → verdictFor (handing 5 []) ≡ verdictFor (judgedOf frame)
 wrong-two [] w e h = absurd (omega (arith, w .all))
 wrong-two (L ∷ rest) w e h =
@@ -71,8 +75,14 @@ wrong-two (L ∷ rest) w e h =
     )
 
 -- they do not: the message decides
-pub by-message : (frame : List ℕ) → Complete frame → getD frame (end frame) 0 ≡ summed frame .one → getD frame (end frame + 1) 0 ≡ summed frame .two
-    → record { number = checked frame; «type_byte» = getD frame 1 0; length = cond (eqb (checked frame) 0) (getD frame 0 0) 0 } ≡ verdictFor (judgedOf frame)
+pub by-message : (frame : List ℕ) → Complete frame → getD frame (end frame) 0 ≡ summed frame .one
+    → getD frame (end frame + 1) 0 ≡ summed frame .two
+    → record {
+      number = checked frame;
+      «type_byte» = getD frame 1 0;
+      length = cond (eqb (checked frame) 0)
+          (getD frame 0 0) 0;
+    } ≡ verdictFor (judgedOf frame)
 by-message [] w e h = absurd (omega (arith, w .all))
 by-message (L ∷ rest) w e h =
     let k = length-ok L (w .known) in
@@ -106,10 +116,12 @@ pub said-none : (frame : List ℕ) → length frame ≡ 0 → Silent ≡ saidOf 
 said-none [] e = refl
 said-none (L ∷ rest) e = absurd (omega arith)
 
-pub said-four : (frame : List ℕ) → (length frame ≡ 0 → ⊥) → lengthOk (getD frame 0 0) ≡ false → Gave (verdictFor (handing 4 [])) ≡ saidOf (judgedFrame frame)
+pub said-four : (frame : List ℕ) → (length frame ≡ 0 → ⊥) → lengthOk (getD frame 0 0) ≡ false
+    → Gave (verdictFor (handing 4 [])) ≡ saidOf (judgedFrame frame)
 said-four [] e h = absurd (e refl)
 said-four (L ∷ rest) e h = rw h
 
-pub said-short : (frame : List ℕ) → lengthOk (getD frame 0 0) ≡ true → length frame < getD frame 0 0 + 3 → Silent ≡ saidOf (judgedFrame frame)
+pub said-short : (frame : List ℕ) → lengthOk (getD frame 0 0) ≡ true → length frame < getD frame 0 0 + 3
+    → Silent ≡ saidOf (judgedFrame frame)
 said-short [] h k = refl
 said-short (L ∷ rest) h k = rw (h, lt-ltb (length rest) (L + 2) (omega arith))

@@ -19,7 +19,8 @@ use Rattle.standard.specs.Messages.{longest, lengthOk}
 use Rattle.standard.specs.Framing.{valueOf, digitsOf, andDigit, pairs}
 use Rattle.standard.proofs.Messages.{length-ok}
 use Rattle.standard.proofs.Framings.{digit-value}
-use Rattle.frames.specs.Plain.{orNone, digitIn, stands, standing, plainOf, span, beyond, lengthOf, roomy, growth, TakesPlain}
+use Rattle.frames.specs.Plain.{orNone, digitIn, stands, standing, plainOf, span, beyond, lengthOf, roomy, growth}
+use Rattle.frames.specs.Plain.{TakesPlain}
 use Rattle.frames.specs.Parts.{Next, Roomy, Lays}
 
 -- ---- what some bytes begin with
@@ -28,13 +29,15 @@ use Rattle.frames.specs.Parts.{Next, Roomy, Lays}
 pub data Seen : Framing → List ℕ → List ℕ → Type 0 where
   nothing : {f : Framing} {bs : List ℕ} → Seen f bs []
   one : {b : ℕ} {bs : List ℕ} → stands b ≡ true → Seen Binary (b ∷ bs) (b ∷ plainOf Binary bs)
-  two : {c d h l : ℕ} {bs : List ℕ} → valueOf c ≡ some h → valueOf d ≡ some l → Seen Ascii (c ∷ d ∷ bs) ((h * 16 + l) ∷ plainOf Ascii bs)
+  two : {c d h l : ℕ} {bs : List ℕ} → valueOf c ≡ some h → valueOf d ≡ some l
+      → Seen Ascii (c ∷ d ∷ bs) ((h * 16 + l) ∷ plainOf Ascii bs)
 
 see-one : (b : ℕ) (bs : List ℕ) (t : Bool) → stands b ≡ t → Seen Binary (b ∷ bs) (cond t (b ∷ standing bs) [])
 see-one b bs true e = one e
 see-one b bs false e = nothing
 
-see-low : (c d h : ℕ) (bs : List ℕ) (v : Option ℕ) → valueOf c ≡ some h → valueOf d ≡ v → Seen Ascii (c ∷ d ∷ bs) (pairs (h ∷ andDigit v (digitsOf bs)))
+see-low : (c d h : ℕ) (bs : List ℕ) (v : Option ℕ) → valueOf c ≡ some h → valueOf d ≡ v
+    → Seen Ascii (c ∷ d ∷ bs) (pairs (h ∷ andDigit v (digitsOf bs)))
 unfolding pairs
 see-low c d h bs none e k = nothing
 see-low c d h bs (some l) e k = two e k
@@ -94,7 +97,8 @@ pub went-none : (f : Framing) (bytes : List ℕ) → Went f bytes 0
 went-none Binary bytes = record { line = omega arith; some = omega arith; rest = refl }
 went-none Ascii bytes = record { line = omega arith; some = omega arith; rest = refl }
 
-module _ {f : Framing} {bytes : List ℕ} {i x : ℕ} (w : Went f bytes i) (n : Next (plainOf f (drop (span f i) bytes)) x) where
+module _ {f : Framing} {bytes : List ℕ} {i x : ℕ} (w : Went f bytes i)
+    (n : Next (plainOf f (drop (span f i) bytes)) x) where
   abbrev P : List ℕ
   P = plainOf f bytes
 
@@ -115,22 +119,27 @@ module _ {f : Framing} {bytes : List ℕ} {i x : ℕ} (w : Went f bytes i) (n : 
   pub went-one : x ≤ 255 → Went f bytes (i + 1)
   went-one h =
       let o = one-more h in
-      let rest : drop i P ≡ getD P i 0 ∷ drop (i + 1) P = drop-cons P i 0 (o .0) ∙ ap (λ k. getD P i 0 ∷ drop k P) (sym (add-one i)) in
+      let rest : drop i P ≡ getD P i 0 ∷ drop (i + 1) P =
+      drop-cons P i 0 (o .0) ∙ ap (λ k. getD P i 0 ∷ drop k P) (sym (add-one i)) in
       let a = after-one f (drop (span f i) bytes) (getD P i 0) (drop (i + 1) P) (w .rest ∙ rest) in
       record {
         line = rw (← span-more f i 1) (omega (arith, a .within, length-drop (span f i) bytes, w .line));
         some = omega (arith, o .0);
-        rest = ap (λ k. plainOf f (drop k bytes)) (sym (span-more f i 1)) ∙ ap (plainOf f) (sym (drop-drop (span f 1) (span f i) bytes)) ∙ a .rest;
+        rest = ap (λ k. plainOf f (drop k bytes)) (sym (span-more f i 1))
+            ∙ ap (plainOf f) (sym (drop-drop (span f 1) (span f i) bytes)) ∙ a .rest;
       }
 
   -- it is stored after those before it
-  pub stored : x ≤ 255 → (frame : List ℕ) (held : ℕ) → held + i < length frame → set (paste frame held P i) (held + i) x ≡ paste frame held P (i + 1)
+  pub stored : x ≤ 255 → (frame : List ℕ) (held : ℕ) → held + i < length frame
+      → set (paste frame held P i) (held + i) x ≡ paste frame held P (i + 1)
   stored h frame held room =
       let o = one-more h in
-      ap (set (paste frame held P i) (held + i)) (sym (o .1)) ∙ paste-suc frame held P i 0 room (o .0) ∙ ap (paste frame held P) (sym (add-one i))
+      ap (set (paste frame held P i) (held + i)) (sym (o .1)) ∙ paste-suc frame held P i 0 room (o .0)
+      ∙ ap (paste frame held P) (sym (add-one i))
 
 -- so many were stored as are taken
-pub laid-taken : (frame P : List ℕ) (held i most : ℕ) → i ≤ length P → i ≤ most → (length P ≤ i) ⊎ (most ≤ i) → Lays held frame (take most P) i (paste frame held P i)
+pub laid-taken : (frame P : List ℕ) (held i most : ℕ) → i ≤ length P → i ≤ most → (length P ≤ i) ⊎ (most ≤ i)
+    → Lays held frame (take most P) i (paste frame held P i)
 laid-taken frame P held i most there few all =
     let same : take i P ≡ take most P = by-all all in
     let n : length (take most P) ≡ i = ap length (sym same) ∙ length-take-le i P there in
@@ -143,7 +152,8 @@ laid-taken frame P held i most there few all =
 -- ---- what an open frame takes
 
 -- a frame of a length that is read
-pub growth-run : (f : Framing) (n : ℕ) (frame bytes : List ℕ) → Roomy n frame → lengthOk (lengthOf n frame (plainOf f bytes)) ≡ true
+pub growth-run : (f : Framing) (n : ℕ) (frame bytes : List ℕ) → Roomy n frame
+    → lengthOk (lengthOf n frame (plainOf f bytes)) ≡ true
     → take (lengthOf n frame (plainOf f bytes) + beyond f - n) (plainOf f bytes) ≡ growth f n frame bytes
 unfolding growth
 growth-run f n frame bytes r k = rw (le-leb n (longest + 3) (r .held), le-leb (longest + 3) (length frame) (r .size), k)
@@ -153,9 +163,11 @@ none-taken : (t s : Bool) (l : List ℕ) → s ≡ false → cond (t && s) l [] 
 none-taken true s l e = rw e
 none-taken false s l e = refl
 
-pub growth-bad : (f : Framing) (n : ℕ) (frame bytes : List ℕ) → lengthOk (lengthOf n frame (plainOf f bytes)) ≡ false → growth f n frame bytes ≡ []
+pub growth-bad : (f : Framing) (n : ℕ) (frame bytes : List ℕ) → lengthOk (lengthOf n frame (plainOf f bytes)) ≡ false
+    → growth f n frame bytes ≡ []
 unfolding growth
-growth-bad f n frame bytes k = none-taken (roomy n frame) _ (take (lengthOf n frame (plainOf f bytes) + beyond f - n) (plainOf f bytes)) k
+growth-bad f n frame bytes k =
+    none-taken (roomy n frame) _ (take (lengthOf n frame (plainOf f bytes) + beyond f - n) (plainOf f bytes)) k
 
 pub growth-narrow : (f : Framing) (n : ℕ) (frame bytes : List ℕ) → roomy n frame ≡ false → growth f n frame bytes ≡ []
 unfolding growth
@@ -198,11 +210,14 @@ module _ (bytes : List ℕ) (at : ℕ) where
   unfolding standing
   stand-end h = next-none (ap standing (drop-of-length-le bytes h))
 
-  stand-here : at < length bytes → plainOf Binary (drop at bytes) ≡ cond (stands (getD bytes at 0)) (getD bytes at 0 ∷ standing (drop (suc at) bytes)) []
+  stand-here : at < length bytes
+      → plainOf Binary (drop at bytes) ≡ cond (stands (getD bytes at 0))
+      (getD bytes at 0 ∷ standing (drop (suc at) bytes)) []
   unfolding standing
   stand-here h = ap standing (drop-cons bytes at 0 h)
 
-  pub stand-one : at < length bytes → stands (getD bytes at 0) ≡ true → getD bytes at 0 ≤ 255 → Next (plainOf Binary (drop at bytes)) (getD bytes at 0)
+  pub stand-one : at < length bytes → stands (getD bytes at 0) ≡ true → getD bytes at 0 ≤ 255
+      → Next (plainOf Binary (drop at bytes)) (getD bytes at 0)
   stand-one h s k = next-some (getD bytes at 0) (standing (drop (suc at) bytes)) (stand-here h ∙ rw s) k
 
   pub stand-not : at < length bytes → stands (getD bytes at 0) ≡ false → Next (plainOf Binary (drop at bytes)) 256
@@ -218,11 +233,14 @@ module _ (bytes : List ℕ) (at : ℕ) where
   pub pair-end : length bytes - at < 2 → Next (plainOf Ascii (drop at bytes)) 256
   pair-end h = next-none (one-character (drop at bytes) (omega (arith, length-drop at bytes)))
 
-  two-here : at + 2 ≤ length bytes → plainOf Ascii (drop at bytes) ≡ pairs (andDigit (valueOf c) (andDigit (valueOf d) (digitsOf (drop (suc (at + 1)) bytes))))
+  two-here : at + 2 ≤ length bytes
+      → plainOf Ascii (drop at bytes) ≡ pairs
+      (andDigit (valueOf c) (andDigit (valueOf d) (digitsOf (drop (suc (at + 1)) bytes))))
   unfolding digitsOf
   two-here h =
       ap (λ l. pairs (digitsOf l))
-      (drop-cons bytes at 0 (omega arith) ∙ ap (λ k. c ∷ drop k bytes) (sym (add-one at)) ∙ ap (λ l. c ∷ l) (drop-cons bytes (at + 1) 0 (omega arith)))
+      (drop-cons bytes at 0 (omega arith) ∙ ap (λ k. c ∷ drop k bytes) (sym (add-one at))
+      ∙ ap (λ l. c ∷ l) (drop-cons bytes (at + 1) 0 (omega arith)))
 
   no-high : (v : Option ℕ) (ds : List ℕ) → valueOf c ≡ v → 16 ≤ orNone v → pairs (andDigit v ds) ≡ []
   unfolding pairs
@@ -230,7 +248,8 @@ module _ (bytes : List ℕ) (at : ℕ) where
   no-high (some x) ds e h = absurd (omega (arith, digit-value c x e .small))
 
   pub pair-high : at + 2 ≤ length bytes → 16 ≤ digitIn c → Next (plainOf Ascii (drop at bytes)) 256
-  pair-high h k = next-none (two-here h ∙ no-high (valueOf c) (andDigit (valueOf d) (digitsOf (drop (suc (at + 1)) bytes))) refl k)
+  pair-high h k =
+      next-none (two-here h ∙ no-high (valueOf c) (andDigit (valueOf d) (digitsOf (drop (suc (at + 1)) bytes))) refl k)
 
   no-low : (v w : Option ℕ) (ds : List ℕ) → valueOf d ≡ w → 16 ≤ orNone w → pairs (andDigit v (andDigit w ds)) ≡ []
   unfolding pairs
@@ -241,27 +260,32 @@ module _ (bytes : List ℕ) (at : ℕ) where
   pub pair-low : at + 2 ≤ length bytes → 16 ≤ digitIn d → Next (plainOf Ascii (drop at bytes)) 256
   pair-low h k = next-none (two-here h ∙ no-low (valueOf c) (valueOf d) (digitsOf (drop (suc (at + 1)) bytes)) refl k)
 
-  both-digits : (v w : Option ℕ) (ds : List ℕ) → orNone v < 16 → orNone w < 16 → pairs (andDigit v (andDigit w ds)) ≡ (orNone v * 16 + orNone w) ∷ pairs ds
+  both-digits : (v w : Option ℕ) (ds : List ℕ) → orNone v < 16 → orNone w < 16
+      → pairs (andDigit v (andDigit w ds)) ≡ (orNone v * 16 + orNone w) ∷ pairs ds
   unfolding pairs
   both-digits none w ds h k = absurd (omega arith)
   both-digits (some x) none ds h k = absurd (omega arith)
   both-digits (some x) (some y) ds h k = refl
 
-  pub pair-both : at + 2 ≤ length bytes → digitIn c < 16 → digitIn d < 16 → Next (plainOf Ascii (drop at bytes)) (digitIn c * 16 + digitIn d)
+  pub pair-both : at + 2 ≤ length bytes → digitIn c < 16 → digitIn d < 16
+      → Next (plainOf Ascii (drop at bytes)) (digitIn c * 16 + digitIn d)
   pair-both h j k =
       let ds = digitsOf (drop (suc (at + 1)) bytes) in
-      next-some (digitIn c * 16 + digitIn d) (pairs ds) (two-here h ∙ both-digits (valueOf c) (valueOf d) ds j k) (omega arith)
+      next-some (digitIn c * 16 + digitIn d) (pairs ds) (two-here h ∙ both-digits (valueOf c) (valueOf d) ds j k)
+      (omega arith)
 
 -- ---- the length byte
 
 -- it is held
-pub first-held : (n : ℕ) (frame plain : List ℕ) → (n ≡ 0 → ⊥) → 0 < length frame → getD frame 0 0 ≡ lengthOf n frame plain
+pub first-held : (n : ℕ) (frame plain : List ℕ) → (n ≡ 0 → ⊥) → 0 < length frame
+    → getD frame 0 0 ≡ lengthOf n frame plain
 first-held zero frame plain h k = absurd (h refl)
 first-held (suc n) [] plain h k = absurd (omega arith)
 first-held (suc n) (L ∷ frame) plain h k = refl
 
 -- it is not held: the first plain byte, or none
-module _ (f : Framing) (n : ℕ) (frame bytes : List ℕ) (x : ℕ) (e : n ≡ 0) (w : Next (plainOf f (drop (span f 0) bytes)) x) where
+module _ (f : Framing) (n : ℕ) (frame bytes : List ℕ) (x : ℕ) (e : n ≡ 0)
+    (w : Next (plainOf f (drop (span f 0) bytes)) x) where
   all : drop (span f 0) bytes ≡ bytes
   all = ap (λ k. drop k bytes) (span-none f)
 
@@ -269,7 +293,8 @@ module _ (f : Framing) (n : ℕ) (frame bytes : List ℕ) (x : ℕ) (e : n ≡ 0
   first-comes h = by-plain (plainOf f bytes) refl ∙ ap (λ k. lengthOf k frame (plainOf f bytes)) (sym e)
     where
       by-plain : (l : List ℕ) → plainOf f bytes ≡ l → x ≡ getD l 0 0
-      by-plain [] k = absurd (omega (arith, w .first ∙ ap (λ b. getD (plainOf f b) 0 256) all ∙ ap (λ l. getD l 0 256) k))
+      by-plain [] k =
+          absurd (omega (arith, w .first ∙ ap (λ b. getD (plainOf f b) 0 256) all ∙ ap (λ l. getD l 0 256) k))
       by-plain (y ∷ l) k = w .first ∙ ap (λ b. getD (plainOf f b) 0 256) all ∙ ap (λ l. getD l 0 256) k
 
   pub none-comes : 255 < x → 0 ≡ lengthOf n frame (plainOf f bytes)
@@ -282,7 +307,8 @@ unfolding growth
 growth-few f n frame bytes = by-test (roomy n frame) (lengthOk (lengthOf n frame (plainOf f bytes))) refl
   where
     by-test : (t s : Bool) → lengthOk (lengthOf n frame (plainOf f bytes)) ≡ s
-        → length (cond (t && s) (take (lengthOf n frame (plainOf f bytes) + beyond f - n) (plainOf f bytes)) []) ≤ longest + 3
+        → length (cond (t && s)
+        (take (lengthOf n frame (plainOf f bytes) + beyond f - n) (plainOf f bytes)) []) ≤ longest + 3
     by-test true true e =
         let L = lengthOf n frame (plainOf f bytes) in
         omega (arith, length-take (L + beyond f - n) (plainOf f bytes), beyond-few f, length-ok L e .few)
@@ -293,7 +319,8 @@ growth-few f n frame bytes = by-test (roomy n frame) (lengthOk (lengthOf n frame
 
 module _ (f : Framing) (n : ℕ) (frame bytes : List ℕ) where
   -- a run of a frame whose length is L
-  pub run-grows : (L r : ℕ) (after : List ℕ) → Roomy n frame → L ≡ lengthOf n frame (plainOf f bytes) → lengthOk L ≡ true
+  pub run-grows : (L r : ℕ) (after : List ℕ) → Roomy n frame → L ≡ lengthOf n frame (plainOf f bytes)
+      → lengthOk L ≡ true
       → Lays n frame (take (L + beyond f - n) (plainOf f bytes)) r after → Lays n frame (growth f n frame bytes) r after
   run-grows L r after room e k w =
       let known : lengthOk (lengthOf n frame (plainOf f bytes)) ≡ true = ap lengthOk (sym e) ∙ k in
@@ -303,7 +330,8 @@ module _ (f : Framing) (n : ℕ) (frame bytes : List ℕ) where
   grows-none : growth f n frame bytes ≡ [] → Lays n frame (growth f n frame bytes) 0 frame
   grows-none e = rw e (record { count = refl; lays = laid-none frame n })
 
-  pub bad-grows : (L : ℕ) → L ≡ lengthOf n frame (plainOf f bytes) → lengthOk L ≡ false → Lays n frame (growth f n frame bytes) 0 frame
+  pub bad-grows : (L : ℕ) → L ≡ lengthOf n frame (plainOf f bytes) → lengthOk L ≡ false
+      → Lays n frame (growth f n frame bytes) 0 frame
   bad-grows L e k = grows-none (growth-bad f n frame bytes (ap lengthOk (sym e) ∙ k))
 
   pub takes-grown : (r : ℕ) (after : List ℕ) → Lays n frame (growth f n frame bytes) r after

@@ -21,14 +21,16 @@ module _ (x : ℕ) (bytes : List ℕ) (i : ℕ) where
   among-more n = ap (among x) (take-add i n bytes) ∙ among-append x (take i bytes) (take n (drop i bytes))
 
   -- and one more
-  among-next : i < length bytes → among x (take (i + 1) bytes) ≡ (among x (take i bytes) || among x (getD bytes i 0 ∷ []))
+  among-next : i < length bytes
+      → among x (take (i + 1) bytes) ≡ (among x (take i bytes) || among x (getD bytes i 0 ∷ []))
   among-next h = among-more 1 ∙ rw (drop-cons bytes i 0 h)
 
   pub found-here : i < length bytes → getD bytes i 0 ≡ x → among x (take (i + 1) bytes) ≡ true
   found-here h e = among-next h ∙ rw (eq-eqb x (getD bytes i 0) (sym e), or-true (among x (take i bytes)))
 
   pub not-here : i < length bytes → (getD bytes i 0 ≡ x → ⊥) → among x (take (i + 1) bytes) ≡ among x (take i bytes)
-  not-here h other = among-next h ∙ rw (ne-eqb x (getD bytes i 0) (λ e. other (sym e)), or-false (among x (take i bytes)))
+  not-here h other =
+      among-next h ∙ rw (ne-eqb x (getD bytes i 0) (λ e. other (sym e)), or-false (among x (take i bytes)))
 
 -- at the beginning nothing is
 pub passed-none : {x : ℕ} {bytes : List ℕ} → Passed x 0 bytes
@@ -39,10 +41,15 @@ module _ {x i : ℕ} {bytes : List ℕ} (p : Passed x i bytes) where
   pub pass-byte : i < length bytes → (getD bytes i 0 ≡ x → ⊥) → Passed x (i + 1) bytes
   pass-byte h other = record { within = omega arith; no-start = not-here x bytes i h other ∙ p .no-start }
 
-  pub pass-part : (end : ℕ) → i ≤ end → end ≤ length bytes → among x (take (end - i) (drop i bytes)) ≡ false → Passed x end bytes
+  pub pass-part : (end : ℕ) → i ≤ end → end ≤ length bytes → among x (take (end - i) (drop i bytes)) ≡ false
+      → Passed x end bytes
   pass-part end h k e =
       let n : end ≡ i + (end - i) = omega arith in
-      record { within = k; no-start = ap (λ m. among x (take m bytes)) n ∙ among-more x bytes i (end - i) ∙ rw (p .no-start, e) }
+      record {
+        within = k;
+        no-start = ap (λ m. among x (take m bytes)) n ∙ among-more x bytes i (end - i)
+            ∙ rw (p .no-start, e);
+      }
 
   -- the first start stands after them
   before : length (upToStart x bytes) ≡ i + length (upToStart x (drop i bytes))
@@ -65,6 +72,7 @@ up-to-within x (b ∷ bytes) =
     let later = up-to-within x bytes in
     go (eqb b x) later
   where
-    go : (t : Bool) → length (upToStart x bytes) ≤ length bytes → length (cond t [] (b ∷ upToStart x bytes)) ≤ suc (length bytes)
+    go : (t : Bool) → length (upToStart x bytes) ≤ length bytes
+        → length (cond t [] (b ∷ upToStart x bytes)) ≤ suc (length bytes)
     go true h = omega arith
     go false h = omega arith

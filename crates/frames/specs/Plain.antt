@@ -1,4 +1,5 @@
--- The bytes of a frame that stand plainly on the line, and those that an open frame takes at once. That a reader which steps through them comes to
+-- The bytes of a frame that stand plainly on the line, and those that an open frame takes at once. That a reader which
+-- steps through them comes to
 -- the same is a law of the crate reader. Assumes nothing.
 use Prim.Native.Nat.{ℕ, _+_, _-_, _*_}
 use mathlib.Core.Path.{_≡_}
@@ -41,7 +42,8 @@ abbrev pub span : Framing → ℕ → ℕ
 span Binary n = n
 span Ascii n = 2 * n
 
--- how many bytes a frame has beyond its length L before the byte that decides: "binary at the last sum byte, ASCII at the stop place"
+-- how many bytes a frame has beyond its length L before the byte that decides: "binary at the last sum byte, ASCII at
+-- the stop place"
 abbrev pub beyond : Framing → ℕ
 beyond Binary = 2
 beyond Ascii = 3

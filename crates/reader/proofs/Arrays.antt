@@ -1,4 +1,5 @@
--- A reader as code has it, with its array: after a read its state is the scan's, it is sound if it was, and the message stands in it. For every
+-- A reader as code has it, with its array: after a read its state is the scan's, it is sound if it was, and the message
+-- stands in it. For every
 -- array; only that its size stays asks for the size. Assumes nothing.
 use Prim.Native.Nat.{ℕ, zero, suc, _+_, _-_, _≤_}
 use native.Mathlib.Nat.{zero-add}
@@ -18,7 +19,8 @@ use Rattle.standard.specs.Judge.{Handed}
 use Rattle.reader.specs.declared.Mode.{Mode}
 use Rattle.reader.specs.declared.Reader.{Reader}
 use Rattle.reader.specs.Step.{State, soundWith, stepOf}
-use Rattle.reader.specs.Read.{Read, scanOf, stateOf, soundReader, freshReader, readerAfter, Given, notSound, readFrom, readOf, Gives, Reads, lentRead, Lent}
+use Rattle.reader.specs.Read.{Read, scanOf, stateOf, soundReader, freshReader, readerAfter, Given, notSound}
+use Rattle.reader.specs.Read.{readFrom, readOf, Gives, Reads, lentRead, Lent}
 use Rattle.reader.proofs.Soundness.{Fits, reader-fits, fits-sound, sound-held}
 use Rattle.reader.proofs.Judging.{isOpen}
 use Rattle.reader.proofs.Kept.{Quiet, keeps-step, keeps-scan}
@@ -52,24 +54,28 @@ laid-over bytes a b h =
 
 pub length-laid : (bytes kept : List ℕ) → length kept ≤ length bytes → length (laid bytes 0 kept) ≡ length bytes
 length-laid bytes kept h =
-    ap length (laid-front bytes kept) ∙ omega (arith, length-append kept (drop (length kept) bytes), length-drop (length kept) bytes)
+    ap length (laid-front bytes kept)
+    ∙ omega (arith, length-append kept (drop (length kept) bytes), length-drop (length kept) bytes)
 
 -- ---- the reader after a read
 
 begin-held : (bytes held kept : List ℕ) → (held ≡ []) ⊎ (held ≡ kept) → take (length held) (laid bytes 0 kept) ≡ held
 begin-held bytes held kept (inl e) = rw e
-begin-held bytes held kept (inr e) = rw e (ap (take (length kept)) (laid-front bytes kept) ∙ take-append-seam kept (drop (length kept) bytes))
+begin-held bytes held kept (inr e) =
+    rw e (ap (take (length kept)) (laid-front bytes kept) ∙ take-append-seam kept (drop (length kept) bytes))
 
 abbrev stateWith : State → List ℕ → State
 stateWith s held = record { mode = s .mode; held = held }
 
-state-after : (r : Reader) (next : State) (kept : List ℕ) → (next .held ≡ []) ⊎ (next .held ≡ kept) → stateOf (readerAfter r next kept) ≡ next
+state-after : (r : Reader) (next : State) (kept : List ℕ) → (next .held ≡ []) ⊎ (next .held ≡ kept)
+    → stateOf (readerAfter r next kept) ≡ next
 state-after r next kept h = ap (stateWith next) (begin-held (r .bytes) (next .held) kept h)
 
 pub sound-with : (m : Mode) (bytes held kept : List ℕ) → (held ≡ []) ⊎ (held ≡ kept) → Fits m held
     → soundWith m (length held) (getD (laid bytes 0 kept) 0 0) ≡ true
 sound-with m bytes held kept (inl e) k = rw e (fits-sound m [] (laid bytes 0 kept) (rw e at k))
-sound-with m bytes held kept (inr e) k = rw (e, laid-front bytes kept) (fits-sound m kept (drop (length kept) bytes) (rw e at k))
+sound-with m bytes held kept (inr e) k =
+    rw (e, laid-front bytes kept) (fits-sound m kept (drop (length kept) bytes) (rw e at k))
 
 -- a sound reader reads, an unsound one is refused
 pub read-sound : (r : Reader) (bs : List ℕ) → soundReader r ≡ true → readOf r bs ≡ readFrom r (scanOf (stateOf r) bs)
@@ -92,7 +98,8 @@ module _ (r : Reader) (bs : List ℕ) (h : soundReader r ≡ true) where
   pub sound-read : soundReader (readOf r bs .reader) ≡ true
   sound-read =
       let w = keeps-scan (stateOf r) bs in
-      rw (read-sound r bs h) (sound-with (scan .next .mode) (r .bytes) (scan .next .held) (scan .kept) (w .begins) (w .fits (reader-fits r h)))
+      rw (read-sound r bs h)
+      (sound-with (scan .next .mode) (r .bytes) (scan .next .held) (scan .kept) (w .begins) (w .fits (reader-fits r h)))
 
 -- the array of a reader has room for the longest frame's bytes
 unfoldable pub Whole : Reader → Type 0
@@ -121,8 +128,11 @@ readerWith r held bytes = record { mode = r .mode; held = held; bytes = bytes }
 pub read-none : (r : Reader) → Whole r → soundReader r ≡ true → readOf r [] ≡ record { reader = r; used = 0; said = [] }
 unfolding scanOf Whole readerWith
 read-none r w h =
-    let fits : length (take (r .held) (r .bytes)) ≡ r .held = length-take-le (r .held) (r .bytes) (omega (arith, sound-held r h)) in
-    read-sound r [] h ∙ ap (λ (x : Reader). record { reader = x; used = 0; said = [] }) (ap₂ (readerWith r) fits (laid-same (r .held) (r .bytes)))
+    let fits : length (take (r .held) (r .bytes)) ≡ r .held =
+    length-take-le (r .held) (r .bytes) (omega (arith, sound-held r h)) in
+    read-sound r [] h
+    ∙ ap (λ (x : Reader). record { reader = x; used = 0; said = [] })
+    (ap₂ (readerWith r) fits (laid-same (r .held) (r .bytes)))
 
 -- ---- `read` is `step` repeated up to the first verdict
 
@@ -133,7 +143,8 @@ thenRead (h ∷ hs) first later = first
 
 -- a read of one byte and more is the read of that byte, and then of the others where it said nothing
 abbrev Repeated : Reader → ℕ → List ℕ → Type 0
-Repeated r b bs = readOf r (b ∷ bs) ≡ thenRead (readOf r (b ∷ []) .said) (readOf r (b ∷ [])) (readOf (readOf r (b ∷ []) .reader) bs)
+Repeated r b bs =
+    readOf r (b ∷ bs) ≡ thenRead (readOf r (b ∷ []) .said) (readOf r (b ∷ [])) (readOf (readOf r (b ∷ []) .reader) bs)
 
 -- an answer of which the array is given
 answerWith : Read → List ℕ → Given
@@ -144,7 +155,8 @@ answerWith read bytes = record {
 }
 
 module _ (r : Reader) (h : soundReader r ≡ true) where
-  same-array : (next : State) (kept : List ℕ) → Quiet (stateOf r) next → (isOpen (next .mode) ≡ true → length (next .held) ≤ length kept)
+  same-array : (next : State) (kept : List ℕ) → Quiet (stateOf r) next
+      → (isOpen (next .mode) ≡ true → length (next .held) ≤ length kept)
       → laid (laid (r .bytes) 0 (next .held)) 0 kept ≡ laid (r .bytes) 0 kept
   same-array next kept q longer = by-stays (q .stays)
     where
@@ -168,7 +180,13 @@ module _ (r : Reader) (h : soundReader r ≡ true) where
   unfolding scanOf
   by-said b bs [] e =
       let w = keeps-step (stateOf r) b in
-      rw (read-sound r (b ∷ bs) h, read-sound r (b ∷ []) h, e, again (stepOf (stateOf r) b .next) bs (w .0 .fits (reader-fits r h)) (w .1 e))
+      rw (
+        read-sound r (b ∷ bs) h,
+        read-sound r (b ∷ []) h,
+        e,
+        again (stepOf (stateOf r) b .next) bs
+            (w .0 .fits (reader-fits r h)) (w .1 e),
+      )
   by-said b bs (g ∷ gs) e = rw (read-sound r (b ∷ bs) h, read-sound r (b ∷ []) h, e)
 
 steps-by : (r : Reader) (b : ℕ) (bs : List ℕ) (t : Bool) → soundReader r ≡ t → Repeated r b bs
@@ -192,7 +210,8 @@ unfolding lentRead
 lent-none r bs h = rw (ne-eqb (length (r .bytes)) (longest + 3) h)
 
 -- what `scan` promises of such an array is what `read` promises
-pub lent-is-read : (r : Reader) (bs : List ℕ) (reader : Reader) (used : ℕ) (said : Said) → length (r .bytes) ≡ longest + 3
+pub lent-is-read : (r : Reader) (bs : List ℕ) (reader : Reader) (used : ℕ) (said : Said)
+    → length (r .bytes) ≡ longest + 3
     → Lent r bs reader used said → Reads r bs reader used said
 lent-is-read r bs reader used said e w = record {
   gives = subst (Gives reader said) (lent-read r bs e) (w .gives);

@@ -1,4 +1,5 @@
--- Plain bytes at once: a reader that steps through those that an open frame takes comes to the same. One law for both framings. Assumes nothing.
+-- Plain bytes at once: a reader that steps through those that an open frame takes comes to the same. One law for both
+-- framings. Assumes nothing.
 use Prim.Native.Nat.{ℕ, zero, suc, _+_, _-_, _*_, _≤_, _<_}
 use native.Mathlib.Nat.{zero-add, add-assoc}
 use native.Mathlib.Omega.{arith}
@@ -30,23 +31,31 @@ abbrev pub inFrame : Framing → List ℕ → State
 inFrame f held = record { mode = Open f; held = held }
 
 used-none : (read : Read) → read ≡ usedMore 0 read
-used-none read = ap (λ n. record { used = n; next = read .next; said = read .said; kept = read .kept }) (sym (zero-add (read .used)))
+used-none read =
+    ap (λ n. record { used = n; next = read .next; said = read .said; kept = read .kept }) (sym (zero-add (read .used)))
 
 used-twice : (n m : ℕ) (read : Read) → usedMore n (usedMore m read) ≡ usedMore (n + m) read
-used-twice n m read = ap (λ k. record { used = k; next = read .next; said = read .said; kept = read .kept }) (sym (add-assoc n m (read .used)))
+used-twice n m read =
+    ap (λ k. record { used = k; next = read .next; said = read .said; kept = read .kept })
+    (sym (add-assoc n m (read .used)))
 
 -- a byte that says nothing
 quiet : (s : State) (b : ℕ) (bs : List ℕ) (m : Mode) (held : List ℕ) → stepOf s b ≡ goes m held
     → scanOf s (b ∷ bs) ≡ usedMore 1 (scanOf (record { mode = m; held = held }) bs)
 unfolding scanOf
 quiet s b bs m held e =
-    let n : suc (scanOf (record { mode = m; held = held }) bs .used) ≡ 1 + scanOf (record { mode = m; held = held }) bs .used = omega arith in
+    let n : suc (scanOf (record {
+      mode =
+          m;
+      held = held;
+    }) bs .used) ≡ 1 + scanOf (record { mode = m; held = held }) bs .used = omega arith in
     rw (e, n)
 
 -- ---- one plain byte
 
 -- of a frame of length L that has room for it
-takes-on : (f : Framing) (held : List ℕ) (x L : ℕ) → lengthOk L ≡ true → getD (held ++ (x ∷ [])) 0 0 ≡ L → length held < L + beyond f
+takes-on : (f : Framing) (held : List ℕ) (x L : ℕ) → lengthOk L ≡ true → getD (held ++ (x ∷ [])) 0 0 ≡ L
+    → length held < L + beyond f
     → takes f held x ≡ goes (Open f) (held ++ (x ∷ []))
 takes-on f [] x L k e h = takes-length f [] x refl (rw e k)
 takes-on Binary (b ∷ held) x L k e h = takes-more (b ∷ held) L x (omega arith) e h
@@ -72,15 +81,18 @@ head d [] = d
 head d (x ∷ xs) = x
 
 module _ (L : ℕ) (known : lengthOk L ≡ true) (held : List ℕ) where
-  one-standing : (b x : ℕ) (bs : List ℕ) → stands b ≡ true → b ≡ x → getD (held ++ (x ∷ [])) 0 0 ≡ L → length held < L + 2
+  one-standing : (b x : ℕ) (bs : List ℕ) → stands b ≡ true → b ≡ x → getD (held ++ (x ∷ [])) 0 0 ≡ L
+      → length held < L + 2
       → scanOf (inFrame Binary held) (b ∷ bs) ≡ usedMore 1 (scanOf (inFrame Binary (held ++ (x ∷ []))) bs)
   one-standing b x bs s e f h =
       quiet (inFrame Binary held) b bs (Open Binary) (held ++ (x ∷ []))
       (no-start (Open Binary) held b (not-standing b 0x7E refl s)
       ∙ rw (ne-eqb b 0x7D (not-standing b 0x7D refl s), e) (takes-on Binary held x L known f h))
 
-  two-digits : (c d u v x : ℕ) (bs : List ℕ) → valueOf c ≡ some u → valueOf d ≡ some v → u * 16 + v ≡ x → getD (held ++ (x ∷ [])) 0 0 ≡ L
-      → length held < L + 3 → scanOf (inFrame Ascii held) (c ∷ d ∷ bs) ≡ usedMore 2 (scanOf (inFrame Ascii (held ++ (x ∷ []))) bs)
+  two-digits : (c d u v x : ℕ) (bs : List ℕ) → valueOf c ≡ some u → valueOf d ≡ some v → u * 16 + v ≡ x
+      → getD (held ++ (x ∷ [])) 0 0 ≡ L
+      → length held < L + 3
+      → scanOf (inFrame Ascii held) (c ∷ d ∷ bs) ≡ usedMore 2 (scanOf (inFrame Ascii (held ++ (x ∷ []))) bs)
   two-digits c d u v x bs p q e f h =
       let high : stepOf (inFrame Ascii held) c ≡ goes (Digit u) held =
       no-start (Open Ascii) held c (no-digit c u p) ∙ digit-due held L c (first held x L f) (λ k. h) ∙ rw p in
@@ -90,8 +102,10 @@ module _ (L : ℕ) (known : lengthOk L ≡ true) (held : List ℕ) where
       ∙ ap (usedMore 1) (quiet (record { mode = Digit u; held = held }) d bs (Open Ascii) (held ++ (x ∷ [])) low)
       ∙ used-twice 1 1 (scanOf (inFrame Ascii (held ++ (x ∷ []))) bs)
 
-  one-plain : {f : Framing} {bs p : List ℕ} → Seen f bs p → (x : ℕ) (xs : List ℕ) → p ≡ x ∷ xs → getD (held ++ (x ∷ [])) 0 0 ≡ L
-      → length held < L + beyond f → scanOf (inFrame f held) bs ≡ usedMore (span f 1) (scanOf (inFrame f (held ++ (x ∷ []))) (drop (span f 1) bs))
+  one-plain : {f : Framing} {bs p : List ℕ} → Seen f bs p → (x : ℕ) (xs : List ℕ) → p ≡ x ∷ xs
+      → getD (held ++ (x ∷ [])) 0 0 ≡ L
+      → length held < L + beyond f
+      → scanOf (inFrame f held) bs ≡ usedMore (span f 1) (scanOf (inFrame f (held ++ (x ∷ []))) (drop (span f 1) bs))
   unfolding head
   one-plain nothing x xs e f room = absurd (cons≢nil (sym e))
   one-plain (one {b} {bs} s) x xs e f room = one-standing b x bs s (ap (head 0) e) f room
@@ -99,7 +113,8 @@ module _ (L : ℕ) (known : lengthOk L ≡ true) (held : List ℕ) where
 
 -- ---- a run of them
 
-pub plain-run : (f : Framing) (L : ℕ) → lengthOk L ≡ true → (k : ℕ) (held bs plain : List ℕ) → plainOf f bs ≡ plain → k ≤ length plain
+pub plain-run : (f : Framing) (L : ℕ) → lengthOk L ≡ true → (k : ℕ) (held bs plain : List ℕ) → plainOf f bs ≡ plain
+    → k ≤ length plain
     → getD (held ++ plain) 0 0 ≡ L → length held + k ≤ L + beyond f
     → scanOf (inFrame f held) bs ≡ usedMore (span f k) (scanOf (inFrame f (held ++ take k plain)) (drop (span f k) bs))
 plain-run f L known zero held bs plain e n first few =
@@ -112,9 +127,12 @@ plain-run f L known (suc k) held bs (x ∷ plain) e n first few =
     let begin : getD more 0 0 ≡ L = front held x plain ∙ first in
     let size : length more ≡ suc (length held) = length-snoc held x in
     let one = one-plain L known held (seen f bs) x plain e begin (omega arith) in
-    let later = plain-run f L known k more rest plain (after-one f bs x plain e .rest) (omega arith) (ap (λ l. getD l 0 0) again ∙ first) (omega arith) in
+    let later =
+    plain-run f L known k more rest plain (after-one f bs x plain e .rest) (omega arith)
+    (ap (λ l. getD l 0 0) again ∙ first) (omega arith) in
     let n : span f 1 + span f k ≡ span f (suc k) = span-more f 1 k ∙ ap (span f) (omega arith) in
-    one ∙ ap (usedMore (span f 1)) later ∙ used-twice (span f 1) (span f k) (scanOf (inFrame f (more ++ take k plain)) (drop (span f k) rest))
+    one ∙ ap (usedMore (span f 1)) later
+    ∙ used-twice (span f 1) (span f k) (scanOf (inFrame f (more ++ take k plain)) (drop (span f k) rest))
     ∙ rw (append-snoc held x (take k plain), drop-drop (span f k) (span f 1) bs, n)
   where
     front : (held : List ℕ) (x : ℕ) (plain : List ℕ) → getD (held ++ (x ∷ [])) 0 0 ≡ getD (held ++ (x ∷ plain)) 0 0

@@ -1,4 +1,5 @@
--- What the code's decisions come to on the bytes held: each way out of a private function as one equation of `takes`, `takesCharacter` or `stepOf`.
+-- What the code's decisions come to on the bytes held: each way out of a private function as one equation of `takes`,
+-- `takesCharacter` or `stepOf`.
 -- Assumes nothing.
 use Prim.Native.Nat.{ℕ, suc, _+_, _≤_, _<_}
 use native.Mathlib.Omega.{arith}
@@ -34,23 +35,27 @@ pub at-start : (m : Mode) (bytes : List ℕ) (b : ℕ) → b ≡ startOf (framin
 unfolding stepOf
 at-start m bytes b e = rw (eq-eqb b _ e)
 
-pub no-start : (m : Mode) (bytes : List ℕ) (b : ℕ) → (b ≡ startOf (framingOf m) → ⊥) → stepIn m b bytes ≡ goesOn m bytes b
+pub no-start : (m : Mode) (bytes : List ℕ) (b : ℕ) → (b ≡ startOf (framingOf m) → ⊥)
+    → stepIn m b bytes ≡ goesOn m bytes b
 unfolding stepOf
 no-start m bytes b h = rw (ne-eqb b _ h)
 
 -- ---- a recovered byte more
 
 -- the length byte
-pub takes-length : (f : Framing) (bytes : List ℕ) (x : ℕ) → length bytes ≡ 0 → lengthOk x ≡ true → takes f bytes x ≡ goes (Open f) (bytes ++ (x ∷ []))
+pub takes-length : (f : Framing) (bytes : List ℕ) (x : ℕ) → length bytes ≡ 0 → lengthOk x ≡ true
+    → takes f bytes x ≡ goes (Open f) (bytes ++ (x ∷ []))
 takes-length f [] x e h = rw h
 takes-length f (b ∷ bytes) x e h = absurd (omega arith)
 
-pub takes-none : (f : Framing) (bytes : List ℕ) (x : ℕ) → length bytes ≡ 0 → lengthOk x ≡ false → takes f bytes x ≡ ends f (handing 4 []) bytes
+pub takes-none : (f : Framing) (bytes : List ℕ) (x : ℕ) → length bytes ≡ 0 → lengthOk x ≡ false
+    → takes f bytes x ≡ ends f (handing 4 []) bytes
 takes-none f [] x e h = rw h
 takes-none f (b ∷ bytes) x e h = absurd (omega arith)
 
 -- a byte after the length L
-pub takes-ascii : (bytes : List ℕ) (x : ℕ) → 0 < length bytes → takes Ascii bytes x ≡ goes (Open Ascii) (bytes ++ (x ∷ []))
+pub takes-ascii : (bytes : List ℕ) (x : ℕ) → 0 < length bytes
+    → takes Ascii bytes x ≡ goes (Open Ascii) (bytes ++ (x ∷ []))
 takes-ascii [] x h = absurd (omega arith)
 takes-ascii (b ∷ bytes) x h = refl
 
@@ -84,7 +89,8 @@ unfolding wholeOf
 no-stop [] L b h e k s = absurd (omega arith)
 no-stop (x ∷ bytes) L b h e k s = rw (le-leb (x + 2) (length bytes) (omega arith), ne-eqb b 0x0D s)
 
-pub stop-bound : (bytes : List ℕ) (L : ℕ) → 0 < length bytes → getD bytes 0 L ≡ L → L + 3 ≤ length bytes → getD bytes 0 0 + 3 ≤ length bytes
+pub stop-bound : (bytes : List ℕ) (L : ℕ) → 0 < length bytes → getD bytes 0 L ≡ L → L + 3 ≤ length bytes
+    → getD bytes 0 0 + 3 ≤ length bytes
 stop-bound [] L h e k = absurd (omega arith)
 stop-bound (x ∷ bytes) L h e k = omega arith
 

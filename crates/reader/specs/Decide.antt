@@ -1,4 +1,5 @@
--- What the private functions of the code promise: a decision is made with no look at the array, and done to the bytes held it is the step.
+-- What the private functions of the code promise: a decision is made with no look at the array, and done to the bytes
+-- held it is the step.
 -- Assumes nothing.
 use Prim.Native.Nat.{ℕ, _+_, _≤_}
 use mathlib.Core.Path.{_≡_}
@@ -86,7 +87,9 @@ Decides n first d step = (held : List ℕ) → length held ≡ n → getD held 0
 
 -- for bytes held that make a frame with its sums
 abbrev pub Judges : Framing → Decision → (List ℕ → List ℕ) → Type 0
-Judges f d frame = (held : List ℕ) → getD (frame held) 0 0 + 3 ≤ length (frame held) → Done d held (ends f (judgedOf (frame held)) (frame held))
+Judges f d frame =
+    (held : List ℕ) → getD (frame held) 0 0 + 3 ≤ length (frame held)
+    → Done d held (ends f (judgedOf (frame held)) (frame held))
 
 -- ---- what is skipped
 

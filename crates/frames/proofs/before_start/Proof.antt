@@ -1,4 +1,5 @@
--- `frames::before_start` meets its contract. The loop's invariant: no start is among the first i bytes. Assumes nothing.
+-- `frames::before_start` meets its contract. The loop's invariant: no start is among the first i bytes. Assumes
+-- nothing.
 use Prim.Native.Nat.{_-_}
 use native.Mathlib.Omega.{arith}
 use lib.ListN.{length}
@@ -18,7 +19,9 @@ shared-slice-read-if2 : tie.Need-shared-slice-read-if2 Inv-loop μ-loop
 shared-slice-read-if2 c = search needs
 
 returns : tie.Need-returns Inv-loop μ-loop
-returns c = before-this (passed-none {bytes = c .before .before .before .before .args .bytes .now}) (omega arith) (c .if2 .taken)
+returns c =
+    before-this (passed-none {bytes = c .before .before .before .before .args .bytes .now}) (omega arith)
+    (c .if2 .taken)
 
 skip-blocks-requires : tie.Need-skip-blocks-requires Inv-loop μ-loop
 skip-blocks-requires c κs = search needs

@@ -1,4 +1,5 @@
--- `frames::digit_table` meets its contract: the table's rule is a test of each entry, which antt computes. Assumes nothing.
+-- `frames::digit_table` meets its contract: the table's rule is a test of each entry, which antt computes. Assumes
+-- nothing.
 use Prim.Native.Nat.{ℕ}
 use mathlib.Core.Path.{refl}
 use mathlib.Core.Bool.{Bool}

@@ -28,12 +28,14 @@ cast-result c = search needs
 returns-2 : tie.Need-returns-2
 returns-2 c =
     let a = c .before .before .before .before .before .before .args in
-    none-comes (a .framing) (a .held) (a .frame .now) (a .bytes .now) (c .before .plain-at .result) (c .before .before .if1 .left) (c .before .plain-at .ensures) (c .if2 .taken)
+    none-comes (a .framing) (a .held) (a .frame .now) (a .bytes .now) (c .before .plain-at .result)
+    (c .before .before .if1 .left) (c .before .plain-at .ensures) (c .if2 .taken)
 
 returns-3 : tie.Need-returns-3
 returns-3 c =
     let a = c .before .before .before .before .before .before .args in
-    first-comes (a .framing) (a .held) (a .frame .now) (a .bytes .now) (c .before .plain-at .result) (c .before .before .if1 .left) (c .before .plain-at .ensures) (c .if2 .left)
+    first-comes (a .framing) (a .held) (a .frame .now) (a .bytes .now) (c .before .plain-at .result)
+    (c .before .before .if1 .left) (c .before .plain-at .ensures) (c .if2 .left)
 
 pub first-of-spec : {M : Type 1} → statement M
 first-of-spec =

@@ -24,8 +24,11 @@ returns c =
     let s = c .before .before .before .before .before .before .before .before .before .before .before in
     let a = s .args in
     let first = c .before .before .before .before .before .before .first-of in
-    let known = sym (c .before .before .before .before .before .length-ok .ensures) ∙ c .before .before .before .before .if1 .taken in
-    run-grows (a .framing) (a .held) (a .frame .now) (a .bytes .now) (first .result) _ _ (s .pre .1) (first .ensures) known (c .before .before .run .ensures)
+    let known =
+    sym (c .before .before .before .before .before .length-ok .ensures)
+    ∙ c .before .before .before .before .if1 .taken in
+    run-grows (a .framing) (a .held) (a .frame .now) (a .bytes .now) (first .result) _ _ (s .pre .1)
+    (first .ensures) known (c .before .before .run .ensures)
 
 same-length-2 : tie.Need-same-length-2
 same-length-2 c = search needs
@@ -34,7 +37,8 @@ returns-2 : tie.Need-returns-2
 returns-2 c =
     let a = c .before .before .before .before .before .before .before .args in
     let first = c .before .before .first-of in
-    bad-grows (a .framing) (a .held) (a .frame .now) (a .bytes .now) (first .result) (first .ensures) (sym (c .before .length-ok .ensures) ∙ c .if1 .left)
+    bad-grows (a .framing) (a .held) (a .frame .now) (a .bytes .now) (first .result) (first .ensures)
+    (sym (c .before .length-ok .ensures) ∙ c .if1 .left)
 
 pub grow-spec : {M : Type 1} → statement M
 grow-spec =

@@ -1,4 +1,5 @@
--- `frames::has_start` meets its contract. The loop's invariant: `found` says whether a start is among the first i bytes. Assumes nothing.
+-- `frames::has_start` meets its contract. The loop's invariant: `found` says whether a start is among the first i
+-- bytes. Assumes nothing.
 use Prim.Native.Nat.{_-_, _≤_, _<_}
 use native.Mathlib.Omega.{arith}
 use mathlib.Core.Path.{_≡_, refl, sym, ap, _∙_}
@@ -33,8 +34,11 @@ loop-again c =
     let l = c .before .before .before .loop in
     let x = c .before .before .before .before .args .start in
     let part = c .before .before .before .before .args .part .now in
-    let inside : l .i < length part = omega arith in
-    (omega arith, ⊎-elim (λ w. w .1 ∙ sym (found-here x part (l .i) inside (w .0 .taken))) (λ w. w .1 ∙ l .inv .1 ∙ sym (not-here x part (l .i) inside (w .0 .left))) (c .if1 .came))
+    let inside : l .i < length part = omega arith in (
+      omega arith,
+      ⊎-elim (λ w. w .1 ∙ sym (found-here x part (l .i) inside (w .0 .taken)))
+          (λ w. w .1 ∙ l .inv .1 ∙ sym (not-here x part (l .i) inside (w .0 .left))) (c .if1 .came),
+    )
 
 returns : tie.Need-returns Inv-loop μ-loop
 returns c =

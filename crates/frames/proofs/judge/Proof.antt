@@ -22,7 +22,9 @@ plain-requires c κs = search needs
 returns-2 : tie.Need-returns-2
 returns-2 c =
     let f = c .before .before .before .before .before .before .args .frame .now in
-    c .plain .ensures ∙ said-four f (c .before .before .before .before .if1 .left) (sym (c .before .before .length-ok .ensures) ∙ not-true _ (c .before .if2 .taken))
+    c .plain .ensures
+    ∙ said-four f (c .before .before .before .before .if1 .left)
+    (sym (c .before .before .length-ok .ensures) ∙ not-true _ (c .before .if2 .taken))
 
 cast-if3 : tie.Need-cast-if3
 cast-if3 c = omega (arith, c .before .before .shared-slice-known2 .given 0)
@@ -36,7 +38,14 @@ returns-3 c =
     said-short f (sym (c .before .before .length-ok .ensures) ∙ not-false _ (c .before .if2 .left)) (c .if3 .taken)
 
 judge-whole-requires : tie.Need-judge-whole-requires
-judge-whole-requires c κs = (refl, record { known = sym (c .before .before .length-ok .ensures) ∙ not-false _ (c .before .if2 .left); all = c .if3 .left })
+judge-whole-requires c κs = (
+  refl,
+  record {
+    known = sym (c .before .before .length-ok .ensures)
+        ∙ not-false _ (c .before .if2 .left);
+    all = c .if3 .left;
+  },
+)
 
 returns-4 : tie.Need-returns-4
 returns-4 c = c .judge-whole .ensures

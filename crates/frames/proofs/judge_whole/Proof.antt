@@ -15,20 +15,28 @@ use Rattle.frames.proofs.judge_whole.Statement.{statement}
 use Rattle.frames.proofs.judge_whole.Tie as tie
 
 -- past the first sum
-one : (c : tie.Else1) → let f = c .before .before .before .before .before .args .frame .now in getD f (end f) 0 ≡ summed f .one
+one : (c : tie.Else1)
+    → let f = c .before .before .before .before .before .args .frame .now in getD f (end f) 0 ≡ summed f .one
 one c = rw (c .before .before .before .before .before .pre .0, ← c .before .before .sums-of .ensures) (c .if1 .left)
 
 -- past the second
-two : (c : tie.Else2) → let f = c .before .before .before .before .before .before .before .args .frame .now in getD f (end f + 1) 0 ≡ summed f .two
-two c = rw (c .before .before .before .before .before .before .before .pre .0, ← c .before .before .before .before .sums-of .ensures) (c .if2 .left)
+two : (c : tie.Else2)
+    → let f =
+    c .before .before .before .before .before .before .before .args .frame .now in getD f
+    (end f + 1) 0 ≡ summed f .two
+two c =
+    rw (c .before .before .before .before .before .before .before .pre .0, ← c .before .before .before .before .sums-of .ensures) (c .if2 .left)
 
 -- the number is the check of the message
-number : (c : tie.After-check) → c .check .result ≡ checked (c .before .before .before .before .before .before .before .before .before .args .frame .now)
+number : (c : tie.After-check) → let s = c .before .before .before .before .before .before .before .before .before in
+    c .check .result ≡ checked (s .args .frame .now)
 number c = rw (c .before .before .before .before .before .before .before .before .before .pre .0) (c .check .ensures)
 
 -- the verdict of a frame whose sums are right
-verdict : (c : tie.Else2) → let s = c .before .before .before .before .before .before .before in let f = s .args .frame .now in
-    Gave (record { number = checked f; «type_byte» = getD f 1 0; length = cond (eqb (checked f) 0) (getD f 0 0) 0 }) ≡ saidOf (judgedFrame f)
+verdict : (c : tie.Else2)
+    → let s = c .before .before .before .before .before .before .before in let f = s .args .frame .now in
+    Gave (record { number = checked f; «type_byte» = getD f 1 0; length = cond (eqb (checked f) 0) (getD f 0 0) 0 })
+    ≡ saidOf (judgedFrame f)
 verdict c =
     let s = c .before .before .before .before .before .before .before in
     let f = s .args .frame .now in
@@ -59,7 +67,8 @@ returns : tie.Need-returns
 returns c =
     let s = c .before .before .before .before .before .before in
     let f = s .args .frame .now in
-    let other : getD f (end f) 0 ≡ summed f .one → ⊥ = rw (s .pre .0, ← c .before .before .before .sums-of .ensures) (c .before .if1 .taken) in
+    let other : getD f (end f) 0 ≡ summed f .one → ⊥ =
+    rw (s .pre .0, ← c .before .before .before .sums-of .ensures) (c .before .if1 .taken) in
     c .plain .ensures ∙ ap Gave (wrong-one f (s .pre .1) other) ∙ said-whole f (s .pre .1)
 
 add-if2 : tie.Need-add-if2
@@ -75,8 +84,10 @@ returns-2 : tie.Need-returns-2
 returns-2 c =
     let s = c .before .before .before .before .before .before .before .before in
     let f = s .args .frame .now in
-    let other : getD f (end f + 1) 0 ≡ summed f .two → ⊥ = rw (s .pre .0, ← c .before .before .before .before .before .sums-of .ensures) (c .before .if2 .taken) in
-    c .plain2 .ensures ∙ ap Gave (wrong-two f (s .pre .1) (one (c .before .before .before)) other) ∙ said-whole f (s .pre .1)
+    let other : getD f (end f + 1) 0 ≡ summed f .two → ⊥ =
+    rw (s .pre .0, ← c .before .before .before .before .before .sums-of .ensures) (c .before .if2 .taken) in
+    c .plain2 .ensures ∙ ap Gave (wrong-two f (s .pre .1) (one (c .before .before .before)) other)
+    ∙ said-whole f (s .pre .1)
 
 sub-check : tie.Need-sub-check
 sub-check c = search needs
@@ -97,13 +108,16 @@ returns-3 : tie.Need-returns-3
 returns-3 c =
     let s = c .before .before .before .before .before .before .before .before .before .before .before in
     let n = number (c .before .before) in
-    rw (n, ← s .pre .0) (rw (eq-eqb (checked (s .args .frame .now)) 0 (sym n ∙ c .if3 .taken)) at (verdict (c .before .before .before .before)))
+    rw (n, ← s .pre .0)
+    (rw (eq-eqb (checked (s .args .frame .now)) 0 (sym n ∙ c .if3 .taken)) at
+    (verdict (c .before .before .before .before)))
 
 returns-4 : tie.Need-returns-4
 returns-4 c =
     let s = c .before .before .before .before .before .before .before .before .before .before .before in
     let n = number (c .before .before) in
-    rw n (rw (ne-eqb (checked (s .args .frame .now)) 0 (λ e. c .if3 .left (n ∙ e))) at (verdict (c .before .before .before .before)))
+    rw n (rw (ne-eqb (checked (s .args .frame .now)) 0 (λ e. c .if3 .left (n ∙ e))) at
+    (verdict (c .before .before .before .before)))
 
 pub judge-whole-spec : {M : Type 1} → statement M
 judge-whole-spec =

@@ -14,15 +14,23 @@ both-there : (c : tie.Else1) → c .before .args .at + 2 ≤ length (c .before .
 both-there c = omega (arith, c .if1 .left, c .before .pre .0)
 
 -- the entries read are the digits' values
-high : (c : tie.After-shared-slice-known2) → let a = c .before .before .before .args in getD (a .digits .now) (getD (a .bytes .now) (a .at) 0) 0 ≡ digitIn (getD (a .bytes .now) (a .at) 0)
+high : (c : tie.After-shared-slice-known2)
+    → let a =
+    c .before .before .before .args in getD (a .digits .now) (getD (a .bytes .now) (a .at) 0) 0 ≡ digitIn
+    (getD (a .bytes .now) (a .at) 0)
 high c =
     let s = c .before .before .before in
-    s .pre .1 .entry (getD (s .args .bytes .now) (s .args .at) 0) (omega (arith, c .before .shared-slice-known .given (s .args .at)))
+    s .pre .1 .entry (getD (s .args .bytes .now) (s .args .at) 0)
+    (omega (arith, c .before .shared-slice-known .given (s .args .at)))
 
-low : (c : tie.After-shared-slice-known4) → let a = c .before .before .before .before .before .before .args in getD (a .digits .now) (getD (a .bytes .now) (a .at + 1) 0) 0 ≡ digitIn (getD (a .bytes .now) (a .at + 1) 0)
+low : (c : tie.After-shared-slice-known4)
+    → let a =
+    c .before .before .before .before .before .before .args in getD (a .digits .now)
+    (getD (a .bytes .now) (a .at + 1) 0) 0 ≡ digitIn (getD (a .bytes .now) (a .at + 1) 0)
 low c =
     let s = c .before .before .before .before .before .before in
-    s .pre .1 .entry (getD (s .args .bytes .now) (s .args .at + 1) 0) (omega (arith, c .before .shared-slice-known3 .given (s .args .at + 1)))
+    s .pre .1 .entry (getD (s .args .bytes .now) (s .args .at + 1) 0)
+    (omega (arith, c .before .shared-slice-known3 .given (s .args .at + 1)))
 
 sub-if1 : tie.Need-sub-if1
 sub-if1 c = search needs
@@ -37,10 +45,18 @@ cast-high : tie.Need-cast-high
 cast-high c = omega (arith, c .shared-slice-known .given (c .before .before .args .at))
 
 shared-slice-read-high-2 : tie.Need-shared-slice-read-high-2
-shared-slice-read-high-2 c = omega (arith, c .before .shared-slice-known .given (c .before .before .before .args .at), c .before .before .before .pre .1 .sized)
+shared-slice-read-high-2 c =
+    omega (
+      arith,
+      c .before .shared-slice-known .given
+          (c .before .before .before .args .at),
+      c .before .before .before .pre .1 .sized,
+    )
 
 returns-2 : tie.Need-returns-2
-returns-2 c = let a = c .before .before .before .before .args in pair-high (a .bytes .now) (a .at) (both-there (c .before .before .before)) (omega (arith, high (c .before), c .if2 .taken))
+returns-2 c =
+    let a = c .before .before .before .before .args in pair-high (a .bytes .now) (a .at)
+    (both-there (c .before .before .before)) (omega (arith, high (c .before), c .if2 .taken))
 
 add-low : tie.Need-add-low
 add-low c = search needs
@@ -52,10 +68,18 @@ cast-low : tie.Need-cast-low
 cast-low c = omega (arith, c .shared-slice-known3 .given (c .before .before .before .before .before .args .at + 1))
 
 shared-slice-read-low-2 : tie.Need-shared-slice-read-low-2
-shared-slice-read-low-2 c = omega (arith, c .before .shared-slice-known3 .given (c .before .before .before .before .before .before .args .at + 1), c .before .before .before .before .before .before .pre .1 .sized)
+shared-slice-read-low-2 c =
+    omega (
+      arith,
+      c .before .shared-slice-known3 .given
+          (c .before .before .before .before .before .before .args .at + 1),
+      c .before .before .before .before .before .before .pre .1 .sized,
+    )
 
 returns-3 : tie.Need-returns-3
-returns-3 c = let a = c .before .before .before .before .before .before .before .args in pair-low (a .bytes .now) (a .at) (both-there (c .before .before .before .before .before .before)) (omega (arith, low (c .before), c .if3 .taken))
+returns-3 c =
+    let a = c .before .before .before .before .before .before .before .args in pair-low (a .bytes .now) (a .at)
+    (both-there (c .before .before .before .before .before .before)) (omega (arith, low (c .before), c .if3 .taken))
 
 mul-result : tie.Need-mul-result
 mul-result c = search needs
@@ -71,7 +95,9 @@ returns-4 c =
     let a = c .before .before .before .before .before .before .before .args in
     let h = high (c .before .before .before .before) in
     let l = low (c .before) in
-    rw (h, l) (pair-both (a .bytes .now) (a .at) (both-there (c .before .before .before .before .before .before)) (omega (arith, h, c .before .before .before .if2 .left)) (omega (arith, l, c .if3 .left)))
+    rw (h, l)
+    (pair-both (a .bytes .now) (a .at) (both-there (c .before .before .before .before .before .before))
+    (omega (arith, h, c .before .before .before .if2 .left)) (omega (arith, l, c .if3 .left)))
 
 pub pair-at-spec : {M : Type 1} → statement M
 pair-at-spec =

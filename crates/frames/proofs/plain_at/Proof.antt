@@ -15,10 +15,13 @@ enum-told-2 : tie.Need-enum-told-2
 enum-told-2 c = search needs
 
 mul-pair-at : tie.Need-mul-pair-at
-mul-pair-at c = let s = c .before .before .before .before in omega (arith, rw (c .enum-told2 .given .1) at (s .pre .1), s .good)
+mul-pair-at c =
+    let s = c .before .before .before .before in omega (arith, rw (c .enum-told2 .given .1) at (s .pre .1), s .good)
 
 pair-at-requires : tie.Need-pair-at-requires
-pair-at-requires c κs = let s = c .before .before .before .before in let told = c .enum-told2 .given .1 in (rw told at (s .pre .1), s .pre .0 told)
+pair-at-requires c κs =
+    let s = c .before .before .before .before in let told = c .enum-told2 .given .1 in
+    (rw told at (s .pre .1), s .pre .0 told)
 
 returns : tie.Need-returns
 returns c = rw (c .before .enum-told .given .1) (c .standing-at .ensures)

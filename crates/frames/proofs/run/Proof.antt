@@ -1,4 +1,5 @@
--- `frames::run` meets its contract. The loop's invariant: so many plain bytes were taken, and they are laid after those that were held. Assumes nothing.
+-- `frames::run` meets its contract. The loop's invariant: so many plain bytes were taken, and they are laid after those
+-- that were held. Assumes nothing.
 use Prim.Native.Nat.{_+_, _-_, _≤_, _<_}
 use native.Mathlib.Omega.{arith}
 use mathlib.Core.Path.{_≡_, sym, ap, _∙_}
@@ -15,7 +16,8 @@ use Rattle.frames.proofs.run.Tie as tie
 
 abbrev Inv-loop : tie.InvT-loop
 Inv-loop framing first held frame₀ bytes digits end i₀ frame i =
-    (end ≡ first + beyond framing) × (i ≤ end - held) × Went framing bytes i × (frame ≡ paste frame₀ held (plainOf framing bytes) i)
+    (end ≡ first + beyond framing) × (i ≤ end - held) × Went framing bytes i
+    × (frame ≡ paste frame₀ held (plainOf framing bytes) i)
 
 abbrev μ-loop : tie.MeasureT-loop
 μ-loop framing first held frame₀ bytes digits end i₀ frame i = end - held - i
@@ -25,13 +27,15 @@ few : (s : tie.Start Inv-loop μ-loop) → s .args .first + beyond (s .args .fra
 few s = omega (arith, length-ok (s .args .first) (s .pre .1) .few, beyond-few (s .args .framing))
 
 -- where the next byte is stored
-room : (c : tie.At-loop Inv-loop μ-loop) → let s = c .before .before .before .before .before in s .args .held + c .loop .i ≤ longest + 3
+room : (c : tie.At-loop Inv-loop μ-loop)
+    → let s = c .before .before .before .before .before in s .args .held + c .loop .i ≤ longest + 3
 room c =
     let s = c .before .before .before .before .before in
     omega (arith, few s, s .pre .2 .held, c .loop .inv .0, c .loop .inv .1)
 
 -- the array's size stays
-sized : (c : tie.At-loop Inv-loop μ-loop) → let s = c .before .before .before .before .before in length (c .loop .frame) ≡ length (s .args .frame .now)
+sized : (c : tie.At-loop Inv-loop μ-loop)
+    → let s = c .before .before .before .before .before in length (c .loop .frame) ≡ length (s .args .frame .now)
 sized c =
     let s = c .before .before .before .before .before in
     ap length (c .loop .inv .3)
@@ -46,8 +50,13 @@ add-end c = let s = c .before .before .before .before in omega (arith, few s, c 
 
 loop-holds : tie.Need-loop-holds Inv-loop μ-loop
 loop-holds c =
-    let a = c .before .before .before .before .args in
-    (ap (λ n. a .first + n) (c .beyond .ensures), omega arith, went-none (a .framing) (a .bytes .now), paste-zero (a .frame .now) (a .held) (plainOf (a .framing) (a .bytes .now)))
+    let a = c .before .before .before .before .args in (
+      ap (λ n. a .first + n) (c .beyond .ensures),
+      omega arith,
+      went-none (a .framing) (a .bytes .now),
+      paste-zero
+          (a .frame .now) (a .held) (plainOf (a .framing) (a .bytes .now)),
+    )
 
 add-loop : tie.Need-add-loop Inv-loop μ-loop
 add-loop c = omega (arith, room c)
@@ -65,8 +74,10 @@ returns c =
     let l = c .before .before .before .loop in
     let a = c .before .before .before .before .before .before .before .before .args in
     rw (l .inv .3)
-    (laid-taken (a .frame .now) (plainOf (a .framing) (a .bytes .now)) (a .held) (l .i) (a .first + beyond (a .framing) - a .held)
-    (l .inv .2 .some) (omega (arith, l .inv .0, l .inv .1)) (inl (went-all (l .inv .2) (c .before .plain-at .ensures) (c .if1 .taken))))
+    (laid-taken (a .frame .now) (plainOf (a .framing) (a .bytes .now)) (a .held) (l .i)
+    (a .first + beyond (a .framing) - a .held)
+    (l .inv .2 .some) (omega (arith, l .inv .0, l .inv .1))
+    (inl (went-all (l .inv .2) (c .before .plain-at .ensures) (c .if1 .taken))))
 
 cast-frame : tie.Need-cast-frame Inv-loop μ-loop
 cast-frame c = search needs
@@ -77,7 +88,16 @@ add-frame c = omega (arith, room (c .before .before .before))
 slice-write-frame : tie.Need-slice-write-frame Inv-loop μ-loop
 slice-write-frame c =
     let s = c .before .before .before .before .before .before .before .before in
-    omega (arith, room (c .before .before .before), sized (c .before .before .before), s .pre .2 .size, few s, c .before .before .before .loop .inv .0, c .before .before .loop-test .taken)
+    omega (
+      arith,
+      room (c .before .before .before),
+      sized
+          (c .before .before .before),
+      s .pre .2 .size,
+      few s,
+      c .before .before .before .loop .inv .0,
+      c .before .before .loop-test .taken,
+    )
 
 add-i : tie.Need-add-i Inv-loop μ-loop
 add-i c = omega (arith, room (c .before .before .before))
@@ -89,11 +109,13 @@ loop-again : tie.Need-loop-again Inv-loop μ-loop
 loop-again c =
     let l = c .before .before .before .loop in
     let s = c .before .before .before .before .before .before .before .before in
-    let fits : s .args .held + l .i < length (s .args .frame .now) = omega (arith, few s, l .inv .0, c .before .before .loop-test .taken, s .pre .2 .size) in (
+    let fits : s .args .held + l .i < length (s .args .frame .now) = omega
+    (arith, few s, l .inv .0, c .before .before .loop-test .taken, s .pre .2 .size) in (
       l .inv .0,
       omega (arith, c .before .before .loop-test .taken),
       went-one (l .inv .2) (c .before .plain-at .ensures) (c .if1 .left),
-      rw (l .inv .3) (stored (l .inv .2) (c .before .plain-at .ensures) (c .if1 .left) (s .args .frame .now) (s .args .held) fits),
+      rw (l .inv .3)
+          (stored (l .inv .2) (c .before .plain-at .ensures) (c .if1 .left) (s .args .frame .now) (s .args .held) fits),
     )
 
 same-length-2 : tie.Need-same-length-2 Inv-loop μ-loop
@@ -104,7 +126,8 @@ returns-2 c =
     let l = c .before .loop in
     let a = c .before .before .before .before .before .before .args in
     rw (l .inv .3)
-    (laid-taken (a .frame .now) (plainOf (a .framing) (a .bytes .now)) (a .held) (l .i) (a .first + beyond (a .framing) - a .held)
+    (laid-taken (a .frame .now) (plainOf (a .framing) (a .bytes .now)) (a .held) (l .i)
+    (a .first + beyond (a .framing) - a .held)
     (l .inv .2 .some) (omega (arith, l .inv .0, l .inv .1)) (inr (omega (arith, l .inv .0, c .loop-test .left))))
 
 pub run-spec : {M : Type 1} → statement M

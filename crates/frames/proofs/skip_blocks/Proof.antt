@@ -43,7 +43,9 @@ loop-less : tie.Need-loop-less Inv-loop μ-loop
 loop-less c = search needs
 
 loop-again : tie.Need-loop-again Inv-loop μ-loop
-loop-again c = pass-part (c .before .before .before .before .loop .inv) _ (omega arith) (omega arith) (sym (c .before .has-start .ensures) ∙ c .if1 .left)
+loop-again c =
+    pass-part (c .before .before .before .before .loop .inv) _ (omega arith) (omega arith)
+    (sym (c .before .has-start .ensures) ∙ c .if1 .left)
 
 returns-2 : tie.Need-returns-2 Inv-loop μ-loop
 returns-2 c = search needs

@@ -18,18 +18,22 @@ stands-requires : tie.Need-stands-requires
 stands-requires c κs = search needs
 
 cast-result : tie.Need-cast-result
-cast-result c = omega (arith, c .before .before .shared-slice-known2 .given (c .before .before .before .before .before .args .at))
+cast-result c =
+    omega (arith, c .before .before .shared-slice-known2 .given (c .before .before .before .before .before .args .at))
 
 returns-2 : tie.Need-returns-2
 returns-2 c =
     let a = c .before .before .before .before .before .args in
-    let few : getD (a .bytes .now) (a .at) 0 ≤ 255 = omega (arith, c .before .before .shared-slice-known2 .given (a .at)) in
-    stand-one (a .bytes .now) (a .at) (c .before .before .before .if1 .left) (sym (c .before .stands .ensures) ∙ c .if2 .taken) few
+    let few : getD (a .bytes .now) (a .at) 0 ≤ 255 =
+    omega (arith, c .before .before .shared-slice-known2 .given (a .at)) in
+    stand-one (a .bytes .now) (a .at) (c .before .before .before .if1 .left)
+    (sym (c .before .stands .ensures) ∙ c .if2 .taken) few
 
 returns-3 : tie.Need-returns-3
 returns-3 c =
     let a = c .before .before .before .before .before .args in
-    stand-not (a .bytes .now) (a .at) (c .before .before .before .if1 .left) (sym (c .before .stands .ensures) ∙ c .if2 .left)
+    stand-not (a .bytes .now) (a .at) (c .before .before .before .if1 .left)
+    (sym (c .before .stands .ensures) ∙ c .if2 .left)
 
 pub standing-at-spec : {M : Type 1} → statement M
 standing-at-spec =

@@ -4,19 +4,27 @@ use mathlib.Core.Path.{_≡_, sym, ap, _∙_}
 use mathlib.Core.Bool.{true}
 use borrow.Author.Needs.{needs}
 use Rattle.standard.specs.declared.Framing.the-variants.{Binary, Ascii}
-use Rattle.frames.proofs.Plainly.{takes-grown, takes-none, takes-short, takes-wide, growth-none, growth-few, one-character, not-ascii}
+use Rattle.frames.specs.Parts.{Roomy}
+use Rattle.frames.proofs.Plainly.{takes-grown, takes-none, takes-short, takes-wide, growth-none, growth-few}
+use Rattle.frames.proofs.Plainly.{one-character, not-ascii}
 use Rattle.frames.proofs.take_plain.Statement.{statement}
 use Rattle.frames.proofs.take_plain.Tie as tie
+
+-- past both tests there is room
+roomy : (c : tie.Else2) → let a = c .before .before .before .before .args in Roomy (a .held) (a .frame .now)
+roomy c = record { held = c .if2 .left; size = c .before .if1 .left }
 
 returns : tie.Need-returns
 returns c =
     let a = c .before .before .before .args in
-    takes-none (a .framing) (a .held) (a .frame .now) (a .bytes .now) (takes-short (a .framing) (a .held) (a .frame .now) (a .bytes .now) (c .if1 .taken))
+    takes-none (a .framing) (a .held) (a .frame .now) (a .bytes .now)
+    (takes-short (a .framing) (a .held) (a .frame .now) (a .bytes .now) (c .if1 .taken))
 
 returns-2 : tie.Need-returns-2
 returns-2 c =
     let a = c .before .before .before .before .args in
-    takes-none (a .framing) (a .held) (a .frame .now) (a .bytes .now) (takes-wide (a .framing) (a .held) (a .frame .now) (a .bytes .now) (c .if2 .taken))
+    takes-none (a .framing) (a .held) (a .frame .now) (a .bytes .now)
+    (takes-wide (a .framing) (a .held) (a .frame .now) (a .bytes .now) (c .if2 .taken))
 
 enum-told : tie.Need-enum-told
 enum-told c = search needs
@@ -25,7 +33,11 @@ slice-aggregate-grow : tie.Need-slice-aggregate-grow
 slice-aggregate-grow c = search needs
 
 grow-requires : tie.Need-grow-requires
-grow-requires c κs = (λ e. absurd (not-ascii (sym (c .before .before .enum-told .given .1) ∙ e)), record { held = c .before .before .before .before .if2 .left; size = c .before .before .before .before .before .if1 .left })
+grow-requires c κs = (
+  λ e. absurd (not-ascii (sym (c .before .before .enum-told .given .1) ∙ e)),
+  roomy
+      (c .before .before .before .before),
+)
 
 enum-told-2 : tie.Need-enum-told-2
 enum-told-2 c = search needs
@@ -34,7 +46,8 @@ returns-3 : tie.Need-returns-3
 returns-3 c =
     let a = c .before .before .before .before .before .before .before .args in
     let told = c .before .enum-told2 .given .1 in
-    rw told (takes-none Ascii (a .held) (a .frame .now) (a .bytes .now) (growth-none Ascii (a .held) (a .frame .now) (a .bytes .now) (one-character (a .bytes .now) (c .if3 .taken))))
+    rw told (takes-none Ascii (a .held) (a .frame .now) (a .bytes .now)
+    (growth-none Ascii (a .held) (a .frame .now) (a .bytes .now) (one-character (a .bytes .now) (c .if3 .taken))))
 
 digit-table-requires : tie.Need-digit-table-requires
 digit-table-requires c κs = search needs
@@ -43,12 +56,19 @@ slice-aggregate-grow-2 : tie.Need-slice-aggregate-grow-2
 slice-aggregate-grow-2 c = search needs
 
 grow-requires-2 : tie.Need-grow-requires-2
-grow-requires-2 c κs = (λ e. c .before .before .digit-table .ensures, record { held = c .before .before .before .before .before .before .if2 .left; size = c .before .before .before .before .before .before .before .if1 .left })
+grow-requires-2 c κs =
+    (λ e. c .before .before .digit-table .ensures, roomy (c .before .before .before .before .before .before))
 
 mul-t15 : tie.Need-mul-t15
 mul-t15 c =
-    let a = c .before .before .before .before .before .before .before .before .before .before .before .before .before .args in
-    omega (arith, c .before .before .grow2 .ensures .count, growth-few (a .framing) (a .held) (a .frame .now) (a .bytes .now))
+    let a =
+    c .before .before .before .before .before .before .before .before .before .before .before .before .before .args in
+    omega (
+      arith,
+      c .before .before .grow2 .ensures .count,
+      growth-few (a .framing) (a .held) (a .frame .now)
+          (a .bytes .now),
+    )
 
 same-length : tie.Need-same-length
 same-length c = search needs
@@ -57,16 +77,19 @@ returns-4 : tie.Need-returns-4
 returns-4 c =
     let a = c .before .before .before .before .before .before .before .before .before .before .before .args in
     let told = c .before .before .before .before .before .enum-told .given .1 in
-    rw told (takes-grown Binary (a .held) (a .frame .now) (a .bytes .now) _ _ (rw told at (c .before .before .grow .ensures)))
+    rw told (takes-grown Binary (a .held) (a .frame .now) (a .bytes .now) _ _
+    (rw told at (c .before .before .grow .ensures)))
 
 same-length-2 : tie.Need-same-length-2
 same-length-2 c = search needs
 
 returns-5 : tie.Need-returns-5
 returns-5 c =
-    let a = c .before .before .before .before .before .before .before .before .before .before .before .before .before .args in
+    let a =
+    c .before .before .before .before .before .before .before .before .before .before .before .before .before .args in
     let told = c .before .before .before .before .before .before .before .enum-told2 .given .1 in
-    rw told (takes-grown Ascii (a .held) (a .frame .now) (a .bytes .now) _ _ (rw told at (c .before .before .grow2 .ensures)))
+    rw told (takes-grown Ascii (a .held) (a .frame .now) (a .bytes .now) _ _
+    (rw told at (c .before .before .grow2 .ensures)))
 
 pub take-plain-spec : {M : Type 1} → statement M
 take-plain-spec =

@@ -12,23 +12,27 @@ use Rattle.standard.specs.Framing.{valueOf}
 use Rattle.reader.specs.declared.Mode.the-variants.{Open}
 use Rattle.reader.specs.Step.{takesDigit}
 use Rattle.reader.specs.Decide.{stepIn}
-use Rattle.reader.proofs.CodeSteps.{at-start, no-start, at-stop, no-stop, stop-bound, digit-due, is-digit, is-none}
+use Rattle.reader.proofs.CodeSteps.{at-start, no-start, at-stop, no-stop, stop-bound, digit-due, is-digit}
+use Rattle.reader.proofs.CodeSteps.{is-none}
 use Rattle.reader.proofs.character.Statement.{statement}
 use Rattle.reader.proofs.character.Tie as tie
 
 -- past the start and the stop a digit is due
-digit-here : (c : tie.After-digit) → let a = c .before .before .before .args in (bytes : List ℕ) → length bytes ≡ a .held
+digit-here : (c : tie.After-digit) → let a = c .before .before .before .args in (bytes : List ℕ)
+    → length bytes ≡ a .held
     → getD bytes 0 (a .first) ≡ a .first → stepIn (Open Ascii) (a .b) bytes ≡ takesDigit none bytes (valueOf (a .b))
 digit-here c bytes e f =
     let a = c .before .before .before .args in
-    let due : 0 < length bytes → length bytes < a .first + 3 = ⊎-elim (λ w. omega arith) (λ w. omega arith) (c .before .if2 .came) in
+    let due : 0 < length bytes → length bytes < a .first + 3 =
+    ⊎-elim (λ w. omega arith) (λ w. omega arith) (c .before .if2 .came) in
     no-start (Open Ascii) bytes (a .b) (c .before .before .if1 .left) ∙ digit-due bytes (a .first) (a .b) f due
 
 opens-requires : tie.Need-opens-requires
 opens-requires c κs = search needs
 
 returns : tie.Need-returns
-returns c bytes e f = rw (at-start (Open Ascii) bytes (c .before .before .args .b) (c .before .if1 .taken)) (c .opens .ensures bytes)
+returns c bytes e f =
+    rw (at-start (Open Ascii) bytes (c .before .before .args .b) (c .before .if1 .taken)) (c .opens .ensures bytes)
 
 add-if3 : tie.Need-add-if3
 add-if3 c = search needs
@@ -69,13 +73,21 @@ says-requires-2 c κs = search needs
 returns-4 : tie.Need-returns-4
 returns-4 c bytes e f =
     let d = c .before .before in
-    rw (digit-here d bytes e f, is-digit (d .before .before .before .args .b) (d .digit .result) (d .digit .ensures) (c .before .if5 .taken))
+    rw (
+      digit-here d bytes e f,
+      is-digit (d .before .before .before .args .b) (d .digit .result) (d .digit .ensures)
+          (c .before .if5 .taken),
+    )
     (c .goes .ensures bytes e)
 
 returns-5 : tie.Need-returns-5
 returns-5 c bytes e f =
     let d = c .before .before in
-    rw (digit-here d bytes e f, is-none (d .before .before .before .args .b) (d .digit .result) (d .digit .ensures) (c .before .if5 .left))
+    rw (
+      digit-here d bytes e f,
+      is-none (d .before .before .before .args .b) (d .digit .result) (d .digit .ensures)
+          (c .before .if5 .left),
+    )
     (c .says2 .ensures bytes)
 
 pub character-spec : {M : Type 1} → statement M

@@ -9,13 +9,15 @@ opens-requires : tie.Need-opens-requires
 opens-requires c κs = search needs
 
 returns : tie.Need-returns
-returns c bytes e f = rw (at-start Escape bytes (c .before .before .args .b) (c .before .if1 .taken)) (c .opens .ensures bytes)
+returns c bytes e f =
+    rw (at-start Escape bytes (c .before .before .args .b) (c .before .if1 .taken)) (c .opens .ensures bytes)
 
 takes-requires : tie.Need-takes-requires
 takes-requires c κs = search needs
 
 returns-2 : tie.Need-returns-2
-returns-2 c bytes e f = rw (no-start Escape bytes (c .before .before .args .b) (c .before .if1 .left)) (c .takes .ensures bytes e f)
+returns-2 c bytes e f =
+    rw (no-start Escape bytes (c .before .before .args .b) (c .before .if1 .left)) (c .takes .ensures bytes e f)
 
 pub escaped-spec : {M : Type 1} → statement M
 escaped-spec = tie.close (tie.spec opens-requires returns takes-requires returns-2)

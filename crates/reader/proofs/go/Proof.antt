@@ -1,4 +1,5 @@
--- `reader::go` meets its contract. The loop's invariant: the reader so far is sound, and the whole read is what is left of it, with as many bytes used. Assumes nothing.
+-- `reader::go` meets its contract. The loop's invariant: the reader so far is sound, and the whole read is what is left
+-- of it, with as many bytes used. Assumes nothing.
 use Prim.Native.Nat.{_+_, _-_, _≤_, _<_}
 use native.Mathlib.Omega.{arith}
 use mathlib.Core.Path.{_≡_, sym, ap, _∙_}
@@ -12,13 +13,16 @@ use Rattle.reader.specs.declared.Reader.{Reader}
 use Rattle.reader.specs.Decide.{TakesIn}
 use Rattle.reader.proofs.Soundness.{reader-fits, sound-held}
 use Rattle.reader.proofs.Arrays.{Whole}
-use Rattle.reader.proofs.CodeLoop.{first-held, SoFar, Turn, storedBy, stored-kept, stored-same, room, whole-after, goes-on, reads-all, reads-number, reads-judged, skipped-on, takes-on}
+use Rattle.reader.proofs.CodeLoop.{first-held, SoFar, Turn, storedBy, stored-kept, stored-same, room}
+use Rattle.reader.proofs.CodeLoop.{whole-after, goes-on, reads-all, reads-number, reads-judged, skipped-on}
+use Rattle.reader.proofs.CodeLoop.{takes-on}
 use Rattle.reader.proofs.go.Statement.{statement}
 use Rattle.reader.proofs.go.Tie as tie
 
 abbrev Inv-loop : tie.InvT-loop
 Inv-loop count frame₀ bytes mode₀ held₀ i₀ frame mode held i =
-    SoFar (record { mode = mode₀; held = held₀; bytes = frame₀ }) bytes i (record { mode = mode; held = held; bytes = frame })
+    SoFar (record { mode = mode₀; held = held₀; bytes = frame₀ }) bytes i
+    (record { mode = mode; held = held; bytes = frame })
 
 abbrev μ-loop : tie.MeasureT-loop
 μ-loop count frame₀ bytes mode₀ held₀ i₀ frame mode held i = length bytes - i
@@ -48,11 +52,13 @@ turn c =
     record {
       so-far = l .inv;
       inside = c .before .before .before .loop-test .taken;
-      done = c .decide .ensures _ (length-take-le (l .held) (l .frame) (held-there (loop-of c))) (first-held (l .frame) (l .held));
+      done = c .decide .ensures _ (length-take-le (l .held) (l .frame) (held-there (loop-of c)))
+          (first-held (l .frame) (l .held));
     }
 
 -- the array, with the byte that was kept
-stored : (c : tie.Joined1 Inv-loop μ-loop) → c .if1 .frame ≡ storedBy (c .before .decide .result) (current (loop-of (c .before)))
+stored : (c : tie.Joined1 Inv-loop μ-loop)
+    → c .if1 .frame ≡ storedBy (c .before .decide .result) (current (loop-of (c .before)))
 stored c =
     let d = c .before .decide .result in
     let now = current (loop-of (c .before)) in
@@ -87,14 +93,17 @@ went c =
     let l = loop-of (q .before .before .before) in
     let bytes = start l .args .bytes .now in
     let at = l .loop .i + 1 in
-    let rest : take (length bytes - at) (drop at bytes) ≡ drop at bytes = take-all (length bytes - at) (drop at bytes) (omega (arith, length-drop at bytes)) in
+    let rest : take (length bytes - at) (drop at bytes) ≡ drop at bytes =
+    take-all (length bytes - at) (drop at bytes) (omega (arith, length-drop at bytes)) in
     takes-on (c .take .result) _ (quiet q) (rw rest at (c .take .ensures))
 
 skipped-requires : tie.Need-skipped-requires Inv-loop μ-loop
 skipped-requires c κs = tt
 
 loop-holds : tie.Need-loop-holds Inv-loop μ-loop
-loop-holds c = let s = c .before .before .before in skipped-on (given s) (s .args .bytes .now) (c .skipped .result) (s .pre .0) (s .pre .1) (c .skipped .ensures)
+loop-holds c =
+    let s = c .before .before .before in skipped-on (given s) (s .args .bytes .now) (c .skipped .result) (s .pre .0)
+    (s .pre .1) (c .skipped .ensures)
 
 slice-read-decide : tie.Need-slice-read-decide Inv-loop μ-loop
 unfolding Whole
@@ -113,7 +122,8 @@ unfolding Whole
 slice-write-frame c = room (turn (c .before)) (c .if1 .taken)
 
 add-i : tie.Need-add-i Inv-loop μ-loop
-add-i c = let l = loop-of (c .before) in omega (arith, c .before .before .before .before .loop-test .taken, start l .good)
+add-i c =
+    let l = loop-of (c .before) in omega (arith, c .before .before .before .before .loop-test .taken, start l .good)
 
 enum-told : tie.Need-enum-told Inv-loop μ-loop
 enum-told c = search needs
@@ -157,12 +167,16 @@ gives-requires : tie.Need-gives-requires Inv-loop μ-loop
 gives-requires c κs = tt
 
 same-length : tie.Need-same-length Inv-loop μ-loop
-same-length c = let d = c .before .before .before .before .before in sized (c .before .before .before .before) ∙ sym (start (loop-of d) .pre .0)
+same-length c =
+    let d = c .before .before .before .before .before in sized (c .before .before .before .before)
+    ∙ sym (start (loop-of d) .pre .0)
 
 returns : tie.Need-returns Inv-loop μ-loop
 returns c =
     let j = c .before .before .before .before in
-    rw (c .gives .ensures, stored j) (reads-number (turn (j .before)) (c .before .before .enum-told2 .given .1) (c .before .plain .result) (c .before .plain .ensures))
+    rw (c .gives .ensures, stored j)
+    (reads-number (turn (j .before)) (c .before .before .enum-told2 .given .1) (c .before .plain .result)
+    (c .before .plain .ensures))
 
 enum-told-3 : tie.Need-enum-told-3 Inv-loop μ-loop
 enum-told-3 c = search needs
@@ -174,13 +188,15 @@ gives-requires-2 : tie.Need-gives-requires-2 Inv-loop μ-loop
 gives-requires-2 c κs = tt
 
 same-length-2 : tie.Need-same-length-2 Inv-loop μ-loop
-same-length-2 c = let j = c .before .before .before .before .before in sized j ∙ sym (start (loop-of (j .before)) .pre .0)
+same-length-2 c =
+    let j = c .before .before .before .before .before in sized j ∙ sym (start (loop-of (j .before)) .pre .0)
 
 returns-2 : tie.Need-returns-2 Inv-loop μ-loop
 returns-2 c =
     let j = c .before .before .before .before .before in
     let said = c .before .judge .ensures ∙ ap (λ f. saidOf (judgedFrame f)) (stored j) in
-    rw (c .gives2 .ensures, stored j) (reads-judged (turn (j .before)) (c .before .before .before .enum-told3 .given .1) (c .before .judge .result) said)
+    rw (c .gives2 .ensures, stored j)
+    (reads-judged (turn (j .before)) (c .before .before .before .enum-told3 .given .1) (c .before .judge .result) said)
 
 gives-requires-3 : tie.Need-gives-requires-3 Inv-loop μ-loop
 gives-requires-3 c κs = tt

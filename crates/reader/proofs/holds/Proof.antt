@@ -15,7 +15,8 @@ add-t5 c = search needs
 
 returns : tie.Need-returns
 returns c bytes e =
-    let more : length (bytes ++ (c .args .byte ∷ [])) ≡ c .args .held + 1 = omega (arith, length-snoc bytes (c .args .byte)) in
+    let more : length (bytes ++ (c .args .byte ∷ [])) ≡ c .args .held + 1 =
+    omega (arith, length-snoc bytes (c .args .byte)) in
     let all = all-held (bytes ++ (c .args .byte ∷ [])) (c .args .held + 1) more in
     record { next = rw all; said = refl; kept = refl; count = rw all (sym more); bound = sym more; idle = (refl, refl) }
 

@@ -33,7 +33,8 @@ returns-2 c bytes e f =
     let d = c .before .before in
     let a = d .before .before .args in
     let none = no-start (Digit (a .high)) bytes (a .b) (d .before .if1 .left) in
-    rw (none, is-digit (a .b) (d .digit .result) (d .digit .ensures) (c .before .if2 .taken)) (c .takes .ensures bytes e f)
+    rw (none, is-digit (a .b) (d .digit .result) (d .digit .ensures) (c .before .if2 .taken))
+    (c .takes .ensures bytes e f)
 
 returns-3 : tie.Need-returns-3
 returns-3 c bytes e f =

@@ -12,7 +12,9 @@ scan-requires : tie.Need-scan-requires
 scan-requires c κs = search needs
 
 returns : tie.Need-returns
-returns c = let s = c .before .before .before .before .before in lent-is-read (s .args .reader) (s .args .bytes .now) _ _ _ (search needs) (c .before .scan .ensures)
+returns c =
+    let s = c .before .before .before .before .before in lent-is-read (s .args .reader) (s .args .bytes .now) _ _ _
+    (search needs) (c .before .scan .ensures)
 
 pub read-spec : {M : Type 1} → statement M
 read-spec =

@@ -21,7 +21,8 @@ gives-requires c κs = search needs
 returns : tie.Need-returns
 returns c =
     let s = c .before .before .before .before .before in
-    rw (c .gives .ensures) (lent-other (given s) (s .args .bytes .now) _ (c .before .plain .ensures) (c .before .before .if1 .taken))
+    rw (c .gives .ensures)
+    (lent-other (given s) (s .args .bytes .now) _ (c .before .plain .ensures) (c .before .before .if1 .taken))
 
 slice-read-sound : tie.Need-slice-read-sound
 slice-read-sound c = omega (arith, c .before .if1 .left)
@@ -40,10 +41,15 @@ returns-2 c =
     let s = c .before .before .before .before .before .before .before .before in
     let sound = sym (c .before .before .before .sound .ensures) ∙ not-true _ (c .before .before .if2 .taken) in
     rw (c .gives2 .ensures)
-    (lent-unsound (given s) (s .args .bytes .now) _ (c .before .plain2 .ensures) (c .before .before .before .before .before .if1 .left) sound)
+    (lent-unsound (given s) (s .args .bytes .now) _ (c .before .plain2 .ensures)
+    (c .before .before .before .before .before .if1 .left) sound)
 
 go-requires : tie.Need-go-requires
-go-requires c κs = (c .before .before .before .before .if1 .left, sym (c .before .before .sound .ensures) ∙ not-false _ (c .before .if2 .left))
+go-requires c κs = (
+  c .before .before .before .before .if1 .left,
+  sym (c .before .before .sound .ensures)
+      ∙ not-false _ (c .before .if2 .left),
+)
 
 same-length : tie.Need-same-length
 same-length c = search needs
@@ -51,7 +57,8 @@ same-length c = search needs
 returns-3 : tie.Need-returns-3
 returns-3 c =
     let s = c .before .before .before .before .before .before .before .before .before .before in
-    lent-reads (given s) (s .args .bytes .now) _ _ _ (c .before .before .before .before .before .before .before .if1 .left) (c .before .before .go .ensures)
+    lent-reads (given s) (s .args .bytes .now) _ _ _
+    (c .before .before .before .before .before .before .before .if1 .left) (c .before .before .go .ensures)
 
 pub scan-spec : {M : Type 1} → statement M
 scan-spec =

@@ -15,7 +15,11 @@ length-ok-requires c κs = search needs
 returns : tie.Need-returns
 returns c =
     let a = c .before .before .before .args in
-    rw (ne-eqb (a .held) 0 (c .before .before .if1 .taken), sym (c .before .length-ok .ensures) ∙ not-true _ (c .if2 .taken))
+    rw (
+      ne-eqb (a .held) 0 (c .before .before .if1 .taken),
+      sym (c .before .length-ok .ensures)
+          ∙ not-true _ (c .if2 .taken),
+    )
 
 beyond-length-requires : tie.Need-beyond-length-requires
 beyond-length-requires c κs = search needs
@@ -31,7 +35,13 @@ returns-2 c =
     let a = c .before .before .before .before .before .args in
     let most = a .first + beyondLength (a .mode) in
     let more : most < a .held = omega (arith, c .before .beyond-length .ensures) in
-    rw (ne-eqb (a .held) 0 (c .before .before .before .before .if1 .taken), sym (c .before .before .before .length-ok .ensures) ∙ not-false _ (c .before .before .if2 .left), lt-leb (a .held) most more)
+    rw (
+      ne-eqb (a .held) 0 (c .before .before .before .before .if1 .taken),
+      sym
+          (c .before .before .before .length-ok .ensures)
+          ∙ not-false _ (c .before .before .if2 .left),
+      lt-leb (a .held) most more,
+    )
 
 pending-ok-requires : tie.Need-pending-ok-requires
 pending-ok-requires c κs = search needs
@@ -43,7 +53,8 @@ returns-3 c =
     ⊎-elim
     (λ w.
     let few : a .held ≤ most = omega (arith, w .3 .ensures, w .4 .left) in
-    rw (ne-eqb (a .held) 0 (w .0 .taken), sym (w .1 .ensures) ∙ not-false _ (w .2 .left), le-leb (a .held) most few) (c .pending-ok .ensures))
+    rw (ne-eqb (a .held) 0 (w .0 .taken), sym (w .1 .ensures) ∙ not-false _ (w .2 .left), le-leb (a .held) most few)
+    (c .pending-ok .ensures))
     (λ w. rw (eq-eqb (a .held) 0 (w .left)) (c .pending-ok .ensures)) (c .before .if1 .came)
 
 pub sound-spec : {M : Type 1} → statement M

@@ -17,7 +17,8 @@ holds-requires c κs = search needs
 returns : tie.Need-returns
 returns c bytes e f =
     let a = c .before .before .before .before .args in
-    rw (takes-length (a .framing) bytes (a .x) (e ∙ c .before .before .before .if1 .taken) (sym (c .before .before .length-ok .ensures) ∙ c .before .if2 .taken))
+    rw (takes-length (a .framing) bytes (a .x) (e ∙ c .before .before .before .if1 .taken)
+    (sym (c .before .before .length-ok .ensures) ∙ c .before .if2 .taken))
     (c .holds .ensures bytes e)
 
 says-requires : tie.Need-says-requires
@@ -26,7 +27,8 @@ says-requires c κs = search needs
 returns-2 : tie.Need-returns-2
 returns-2 c bytes e f =
     let a = c .before .before .before .before .args in
-    rw (takes-none (a .framing) bytes (a .x) (e ∙ c .before .before .before .if1 .taken) (sym (c .before .before .length-ok .ensures) ∙ c .before .if2 .left))
+    rw (takes-none (a .framing) bytes (a .x) (e ∙ c .before .before .before .if1 .taken)
+    (sym (c .before .before .length-ok .ensures) ∙ c .before .if2 .left))
     (c .says .ensures bytes)
 
 enum-told : tie.Need-enum-told
@@ -60,12 +62,14 @@ returns-4 c bytes e f =
     let told = c .before .before .enum-told .given .1 in
     let some : 0 < length bytes = omega arith in
     let sums : a .first + 2 ≤ length bytes = omega arith in
-    rw (told, takes-last bytes (a .first) (a .x) some f sums) (c .last-sum .ensures bytes (last-bound bytes (a .first) (a .x) some f sums))
+    rw (told, takes-last bytes (a .first) (a .x) some f sums)
+    (c .last-sum .ensures bytes (last-bound bytes (a .first) (a .x) some f sums))
 
 returns-5 : tie.Need-returns-5
 returns-5 c bytes e f =
     let told = c .before .enum-told2 .given .1 in
-    rw (told, takes-ascii bytes (c .before .before .before .before .args .x) (omega arith)) (rw told at (c .holds3 .ensures bytes e))
+    rw (told, takes-ascii bytes (c .before .before .before .before .args .x) (omega arith))
+    (rw told at (c .holds3 .ensures bytes e))
 
 pub takes-spec : {M : Type 1} → statement M
 takes-spec =
