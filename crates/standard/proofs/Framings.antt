@@ -17,7 +17,7 @@ use Rattle.standard.specs.declared.Framing.{Framing}
 use Rattle.standard.specs.declared.Framing.the-variants.{Binary, Ascii}
 use Rattle.standard.specs.Sums.{sumsOf}
 use Rattle.standard.specs.Messages.{among, checkOf}
-use Rattle.standard.specs.Framing.{startOf, stopOf, stuffed, digit, twoDigits, coded, coding, bodyOf, frameOf}
+use Rattle.standard.specs.Framing.{startOf, stuffed, digit, twoDigits, coded, coding, bodyOf}
 use Rattle.standard.specs.Framing.{Recovered, also, unstuff, valueOf, andDigit, digitsOf, pairs, recovered}
 use Rattle.standard.proofs.Sum.{sums-small}
 use Rattle.standard.proofs.Messages.{both-true, passed}
