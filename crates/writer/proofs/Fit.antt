@@ -3,8 +3,8 @@ use Prim.Native.Nat.{ℕ, _-_, _≤_, _<_}
 use native.Mathlib.Omega.{arith}
 use mathlib.Core.Path.{_≡_, refl}
 use mathlib.Core.Bool.{Bool, true, false, _||_}
-use mathlib.Core.List.{[], _∷_}
-use lib.Dec.{eqb, ltb}
+use mathlib.Core.List.{[]}
+use lib.Dec.{ltb}
 use borrow.Author.Tests.{lt-ltb, le-ltb, ltb-false}
 use Rattle.standard.specs.Writer.{noRoom}
 use Rattle.standard.proofs.Judge.{first-none}

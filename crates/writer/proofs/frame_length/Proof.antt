@@ -1,5 +1,4 @@
 -- `writer::frame_length` meets its contract: in ASCII the length is known without a look at the bytes. Assumes nothing.
-use native.Mathlib.Omega.{arith}
 use mathlib.Core.Path.{sym}
 use borrow.Author.Needs.{needs}
 use Rattle.writer.proofs.Pieces.{ascii-size}

@@ -1,7 +1,6 @@
 -- `writer::put_frame` meets its contract: start, length, message, sums and stop, one after the other. Assumes nothing.
-use Prim.Native.Nat.{ℕ, _≤_}
+use Prim.Native.Nat.{ℕ}
 use native.Mathlib.Omega.{arith}
-use mathlib.Core.Path.{_≡_, sym, _∙_}
 use mathlib.Core.List.{List, _++_}
 use lib.ListN.{length, length-set}
 use borrow.Author.Needs.{needs}

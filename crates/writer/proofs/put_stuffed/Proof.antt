@@ -1,7 +1,5 @@
 -- `writer::put_stuffed` meets its contract: the tests are the definition's. Assumes nothing.
-use Prim.Native.Nat.{_+_, _≤_}
 use native.Mathlib.Omega.{arith}
-use lib.ListN.{length}
 use borrow.Author.Tests.{eq-eqb, ne-eqb}
 use borrow.Author.Needs.{needs}
 use Rattle.standard.proofs.Put.{put-one}

@@ -1,6 +1,6 @@
 -- `writer::put_summed` meets its contract. The loop's invariant: the bytes passed are put, coded, and the sums are
 -- those of the length byte and of them. Assumes nothing.
-use Prim.Native.Nat.{ℕ, _+_, _-_, _≤_}
+use Prim.Native.Nat.{_+_, _-_, _≤_}
 use native.Mathlib.Omega.{arith}
 use mathlib.Core.Path.{_≡_, ap, _∙_}
 use mathlib.Core.List.{_∷_}
