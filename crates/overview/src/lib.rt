@@ -4,25 +4,10 @@ use standard::Group;
 use standard::Overview;
 use standard::Share;
 ghost use mathlib.Core.Path.{_≡_};
-ghost use Prim.Native.Nat.{suc, _<_, min};
+ghost use Prim.Native.Nat.{suc, _/_, _<_};
 ghost use lib.ListN.{length};
-ghost use Rattle.standard.specs.Words.{bit};
 ghost use Rattle.standard.specs.Table.{tableBytes};
-ghost use Rattle.standard.specs.Overview.{heardOf, faultedOf, shareOf, shareNumber, counted, seenOf, groupValues, overviewValues};
-
-// 1 where the zone of this mark is heard.
-fn heard_one(mark: u8) -> u16
-    ensures { λ r. ⌜ r ≡ bit 0 mark ⌝ }
-{
-    (mark % 2) as u16
-}
-
-// 1 where the zone is heard and its short flags say faulted.
-fn faulted_one(mark: u8, short: u8) -> u16
-    ensures { λ r. ⌜ r ≡ min (bit 0 mark) (bit 0 short) ⌝ }
-{
-    if mark % 2 == 1 { (short % 2) as u16 } else { 0 }
-}
+ghost use Rattle.standard.specs.Overview.{heardOf, faultedOf, shareOf, shareNumber, counted, groupSeen, seenOf, groupValues, overviewValues};
 
 // f64 holds both counts exactly, so the division is what rounds, once.
 fn share_of(heard: u16, faulted: u16) -> Share
@@ -35,7 +20,7 @@ fn share_of(heard: u16, faulted: u16) -> Share
 }
 
 // Counts, and the share that is made from them.
-fn with_share(heard: u16, faulted: u16) -> Group
+pub fn with_share(heard: u16, faulted: u16) -> Group
     ensures { λ r. ⌜ groupValues r ≡ counted heard faulted ⌝ }
 {
     let share = share_of(heard, faulted);
@@ -56,15 +41,28 @@ fn group_at(table: &[u8], index: u8) -> Group
     let mut faulted: u16 = 0;
     for j in 0..16 {
         let zone = 16 * index + j;
-        let mark = table::zone_mark(table, zone);
-        let short = table::zone_short(table, zone);
-        heard += heard_one(mark.value);
-        faulted += faulted_one(mark.value, short.value);
+        let answer = table::zone_heard(table, zone);
+        if answer.value == 1 {
+            let short = table::zone_short(table, zone);
+            heard += 1;
+            faulted += (short.value % 2) as u16;
+        }
     }
     with_share(heard, faulted)
 }
 
-// All sixteen groups and the site, or the number with which the table refuses every question.
+// The group that a zone stands in: every zone is in one, and of a table that is refused none is
+// heard.
+pub fn group_of(table: &[u8], zone: u8) -> Group
+    ensures { λ r. ⌜ groupValues r ≡ groupSeen (now (table .entry)) (suc («zone» / 16)) ⌝ }
+{
+    if table::refusal(table) != 0 {
+        return with_share(0, 0);
+    }
+    group_at(table, zone / 16)
+}
+
+// All sixteen groups and the site, or the number with which the table is refused.
 pub fn view(table: &[u8]) -> Overview
     ensures { λ r. ⌜ overviewValues r ≡ seenOf (now (table .entry)) ⌝ }
 {
@@ -74,10 +72,10 @@ pub fn view(table: &[u8]) -> Overview
         share: Share::NotHeard,
     };
     let mut groups = [none; 16];
-    let first = table::zone_mark(table, 0);
-    if first.number != 0 {
+    let number = table::refusal(table);
+    if number != 0 {
         return Overview {
-            number: first.number,
+            number: number,
             groups: groups,
             site: none,
         };

@@ -52,12 +52,16 @@ pub record Counted : Type 0 where
 abbrev pub counted : ℕ → ℕ → Counted
 counted heard faulted = record { heard = heard; faulted = faulted; share = shareOf heard faulted }
 
+-- group k of a table; "a refused call's counts and lengths are 0, its shares "not heard""
+abbrev pub groupSeen : List ℕ → ℕ → Counted
+groupSeen t k = cond (isTable t) (counted (heardOf t k) (faultedOf t k)) (counted 0 0)
+
 pub record Seen : Type 0 where
   pub number : ℕ
   pub groups : List Counted
   pub site : Counted
 
--- "A refused call's counts and lengths are 0, its shares "not heard"
+-- "A refused call's counts and lengths are 0, its shares "not heard""
 abbrev pub nothingSeen : Seen
 nothingSeen = record { number = 11; groups = replicate 16 (counted 0 0); site = counted 0 0 }
 
