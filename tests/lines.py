@@ -97,7 +97,7 @@ class Line:
     """A pseudo-terminal as it comes, echo on, under a name that stays; this program is its other end."""
 
     def __init__(self, path):
-        self.path, self.heard = path, b""
+        self.path, self.heard = path, bytearray()
         self.far, self.near = os.openpty()
         os.set_blocking(self.far, False)
         os.symlink(os.ttyname(self.near), path)
@@ -130,9 +130,13 @@ class Line:
             time.sleep(0.05)
         return True
 
-    def has_heard(self, replies):
-        self.hear()
-        return len(self.heard) >= len(replies)
+    def hears(self, replies):
+        """Waits for that many bytes, as long as they keep coming."""
+        while len(self.heard) < len(replies):
+            before = len(self.heard)
+            if not until(lambda: self.hear() or len(self.heard) > before):
+                return False
+        return True
 
     def close(self):
         os.unlink(self.path)  # first: the next pseudo-terminal that anybody opens has the same number
@@ -228,7 +232,7 @@ class Trials:
                 shown = host.said().count("site:")
                 host.send(signal.SIGUSR1)
                 answered = answered and host.said_often("site:", shown + 1)
-        read = until(lambda: line.has_heard(replies))
+        read = line.hears(replies)
         ended = host.end(self.chance.choice((signal.SIGTERM, signal.SIGINT, signal.SIGHUP)))
         line.hear()
         self.note(f"{framing}: cut anywhere, signals in between: the table of the uncut stream", self.hearing, status == 0,
@@ -289,7 +293,7 @@ class Trials:
 
     def nobody_takes_replies(self, home):
         """Start after start: each is answered, until the line takes no more."""
-        starts = b"\x7e" * 40000
+        starts = b"\x7e" * 30000
         replies = frame("binary", b"\x1e") * (len(starts) - 1)
         line = Line(os.path.join(home, "line"))
         host = self.started(home, line, [])
@@ -300,7 +304,7 @@ class Trials:
             host.send(signal.SIGUSR1)
             time.sleep(0.001)
         line.send(starts)
-        got = until(lambda: line.has_heard(replies))
+        got = line.hears(replies)
         self.note("a line that takes no byte for a while, signals meanwhile: no reply is lost", self.hearing, stuck, got,
                   line.heard == replies, host.said().count("site:") > 0)
         line.send(b"\x7e" * 4096, hearing=False)
@@ -317,7 +321,7 @@ class Trials:
         host = Host(home, self.command, [], line.near, line.near)
         raw = until(lambda: line.settings()[3] == 0)
         line.send(data)
-        read = until(lambda: line.has_heard(replies))
+        read = line.hears(replies)
         ended = host.end()
         line.hear()
         self.note("a terminal as standard input and output: set up too", raw, read, ended == 0, host.table() == table,
