@@ -145,13 +145,16 @@ class Line:
 
 
 class Host:
-    """The program on a line; what it says goes to a file."""
+    """The program on a line; what it says goes to a file. None outlives this program: it would open the lines of the next one."""
+
+    started = []
 
     def __init__(self, home, command, words, stdin=subprocess.DEVNULL, stdout=subprocess.DEVNULL):
         self.said_in, self.table_in = os.path.join(home, "said"), os.path.join(home, "table")
         with open(self.said_in, "wb") as said:
             self.process = subprocess.Popen(command + ["--table", self.table_in] + words, stdin=stdin, stdout=stdout,
                                             stderr=said, start_new_session=True)
+        Host.started.append(self)
 
     def said(self):
         with open(self.said_in, "rb") as said:
@@ -364,6 +367,17 @@ class Trials:
             self.note(name, self.captured(home, line, how, data) == wanted)
             line.close()
 
+    def run(self, home):
+        for framing in FRAMINGS:
+            self.cut_with_signals(home, framing)
+            self.going_and_coming(home, framing)
+        self.away_at_the_end(home)
+        self.signals_alone(home)
+        self.nobody_takes_replies(home)
+        self.on_standard_input(home)
+        self.no_line(home)
+        self.captures(home)
+
 
 def main(words):
     if words == ["--help"]:
@@ -373,16 +387,13 @@ def main(words):
         print(__doc__, file=sys.stderr)
         return 2
     trials = Trials(int(words[0]), words[2:])
-    with tempfile.TemporaryDirectory() as home:
-        for framing in FRAMINGS:
-            trials.cut_with_signals(home, framing)
-            trials.going_and_coming(home, framing)
-        trials.away_at_the_end(home)
-        trials.signals_alone(home)
-        trials.nobody_takes_replies(home)
-        trials.on_standard_input(home)
-        trials.no_line(home)
-        trials.captures(home)
+    signal.signal(signal.SIGTERM, lambda *_: sys.exit(143))
+    try:
+        with tempfile.TemporaryDirectory() as home:
+            trials.run(home)
+    finally:
+        for host in Host.started:
+            host.leave()
     print(f"{trials.passed} passed, {trials.failed} failed")
     return int(trials.failed > 0)
 
