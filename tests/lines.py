@@ -97,7 +97,7 @@ class Line:
     """A pseudo-terminal as it comes, echo on, under a name that stays; this program is its other end."""
 
     def __init__(self, path):
-        self.path, self.heard = path, b""
+        self.path, self.heard = path, bytearray()
         self.far, self.near = os.openpty()
         os.set_blocking(self.far, False)
         os.symlink(os.ttyname(self.near), path)
@@ -130,9 +130,13 @@ class Line:
             time.sleep(0.05)
         return True
 
-    def has_heard(self, replies):
-        self.hear()
-        return len(self.heard) >= len(replies)
+    def hears(self, replies):
+        """Waits for that many bytes, as long as they keep coming."""
+        while len(self.heard) < len(replies):
+            before = len(self.heard)
+            if not until(lambda: self.hear() or len(self.heard) > before):
+                return False
+        return True
 
     def close(self):
         os.unlink(self.path)  # first: the next pseudo-terminal that anybody opens has the same number
@@ -141,13 +145,16 @@ class Line:
 
 
 class Host:
-    """The program on a line; what it says goes to a file."""
+    """The program on a line; what it says goes to a file. None outlives this program: it would open the lines of the next one."""
+
+    started = []
 
     def __init__(self, home, command, words, stdin=subprocess.DEVNULL, stdout=subprocess.DEVNULL):
         self.said_in, self.table_in = os.path.join(home, "said"), os.path.join(home, "table")
         with open(self.said_in, "wb") as said:
             self.process = subprocess.Popen(command + ["--table", self.table_in] + words, stdin=stdin, stdout=stdout,
                                             stderr=said, start_new_session=True)
+        Host.started.append(self)
 
     def said(self):
         with open(self.said_in, "rb") as said:
@@ -228,7 +235,7 @@ class Trials:
                 shown = host.said().count("site:")
                 host.send(signal.SIGUSR1)
                 answered = answered and host.said_often("site:", shown + 1)
-        read = until(lambda: line.has_heard(replies))
+        read = line.hears(replies)
         ended = host.end(self.chance.choice((signal.SIGTERM, signal.SIGINT, signal.SIGHUP)))
         line.hear()
         self.note(f"{framing}: cut anywhere, signals in between: the table of the uncut stream", self.hearing, status == 0,
@@ -289,7 +296,7 @@ class Trials:
 
     def nobody_takes_replies(self, home):
         """Start after start: each is answered, until the line takes no more."""
-        starts = b"\x7e" * 40000
+        starts = b"\x7e" * 30000
         replies = frame("binary", b"\x1e") * (len(starts) - 1)
         line = Line(os.path.join(home, "line"))
         host = self.started(home, line, [])
@@ -300,7 +307,7 @@ class Trials:
             host.send(signal.SIGUSR1)
             time.sleep(0.001)
         line.send(starts)
-        got = until(lambda: line.has_heard(replies))
+        got = line.hears(replies)
         self.note("a line that takes no byte for a while, signals meanwhile: no reply is lost", self.hearing, stuck, got,
                   line.heard == replies, host.said().count("site:") > 0)
         line.send(b"\x7e" * 4096, hearing=False)
@@ -317,7 +324,7 @@ class Trials:
         host = Host(home, self.command, [], line.near, line.near)
         raw = until(lambda: line.settings()[3] == 0)
         line.send(data)
-        read = until(lambda: line.has_heard(replies))
+        read = line.hears(replies)
         ended = host.end()
         line.hear()
         self.note("a terminal as standard input and output: set up too", raw, read, ended == 0, host.table() == table,
@@ -360,6 +367,17 @@ class Trials:
             self.note(name, self.captured(home, line, how, data) == wanted)
             line.close()
 
+    def run(self, home):
+        for framing in FRAMINGS:
+            self.cut_with_signals(home, framing)
+            self.going_and_coming(home, framing)
+        self.away_at_the_end(home)
+        self.signals_alone(home)
+        self.nobody_takes_replies(home)
+        self.on_standard_input(home)
+        self.no_line(home)
+        self.captures(home)
+
 
 def main(words):
     if words == ["--help"]:
@@ -369,16 +387,13 @@ def main(words):
         print(__doc__, file=sys.stderr)
         return 2
     trials = Trials(int(words[0]), words[2:])
-    with tempfile.TemporaryDirectory() as home:
-        for framing in FRAMINGS:
-            trials.cut_with_signals(home, framing)
-            trials.going_and_coming(home, framing)
-        trials.away_at_the_end(home)
-        trials.signals_alone(home)
-        trials.nobody_takes_replies(home)
-        trials.on_standard_input(home)
-        trials.no_line(home)
-        trials.captures(home)
+    signal.signal(signal.SIGTERM, lambda *_: sys.exit(143))
+    try:
+        with tempfile.TemporaryDirectory() as home:
+            trials.run(home)
+    finally:
+        for host in Host.started:
+            host.leave()
     print(f"{trials.passed} passed, {trials.failed} failed")
     return int(trials.failed > 0)
 
