@@ -20,7 +20,7 @@ use Rattle.reader.specs.Step.{State}
 use Rattle.reader.specs.Read.{freshReader, readOf}
 use Rattle.reader.specs.Calls.{fresh, Uses}
 use Rattle.reader.proofs.Parts.{run, after, run-append, run-parts}
-use Rattle.reader.proofs.Used.{used-rule, used-one}
+use Rattle.reader.proofs.Used.{used-rule, used-unique}
 use Rattle.writer.proofs.RoundTrip.{FrameReads, frame-reads, write-then-read-one}
 
 neither : (a b : Bool) → (a || b) ≡ false → a ≡ false
@@ -82,5 +82,5 @@ module _ (f : Framing) (m q : List ℕ) (good : checkOf m ≡ 0) (bytes : Bytes 
   fresh-reads =
       let stream = frameOf f m ++ q in
       let given = readOf (freshReader f) stream in
-      used-one f [] stream (given .used) (length (frameOf f m)) (given .said) (handing 0 m ∷ [])
+      used-unique f [] stream (given .used) (length (frameOf f m)) (given .said) (handing 0 m ∷ [])
       (used-rule fresh stream) uses

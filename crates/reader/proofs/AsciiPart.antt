@@ -15,11 +15,13 @@ use Rattle.standard.specs.Messages.{lengthOk}
 use Rattle.standard.specs.Framing.{valueOf, digitsOf, pairs, noDigit}
 use Rattle.standard.specs.Judge.{handing, decided, unfinished, plain, wholeOf, atStop, ended, frameJudged, judgeAfter}
 use Rattle.standard.proofs.Framings.{digit-value}
+use Rattle.standard.proofs.Decided.{whole-front}
 use Rattle.reader.specs.declared.Mode.{Mode}
 use Rattle.reader.specs.declared.Mode.the-variants.{Open, Digit}
 use Rattle.reader.specs.Step.{framingOf, goes, ends, takes, takesDigit, goesOn}
 use Rattle.reader.proofs.Soundness.{Few, Fits, few-held}
-use Rattle.reader.proofs.Frames.{length-snoc, by-test, frame-bad, frame-short, frame-full, frame-end, whole-front, whole-stands, whole-sheet}
+use Rattle.reader.proofs.Frames.{length-snoc, by-test, frame-bad, frame-short, frame-full, frame-end}
+use Rattle.reader.proofs.Frames.{whole-stands, whole-sheet}
 use Rattle.reader.proofs.Judging.{andPending, spent, endFrom, spelt, leftOf, isOpen, On, Over, Does, on, over}
 
 -- ---- where the stop is due
@@ -40,17 +42,21 @@ ascii-end (L ∷ rest) k = by-length (leb (L + 2) (length rest)) refl
   where
     by-length : (t : Bool) → leb (L + 2) (length rest) ≡ t → spelt none (L ∷ rest) [] ≡ unfinished
     by-length true e = at-stop L rest [] [] none (k .0) (omega (arith, leb-true))
-    by-length false e = rw (append-nil rest) (frame-short L rest none (endFrom (2 * suc (length rest)) []) (k .0) (omega (arith, leb-false)))
+    by-length false e =
+        rw (append-nil rest)
+        (frame-short L rest none (endFrom (2 * suc (length rest)) []) (k .0) (omega (arith, leb-false)))
 
 pub digit-end : (held : List ℕ) (d : ℕ) → Few 2 held → spelt (some d) held [] ≡ unfinished
 unfolding digitsOf pairs
 digit-end [] d k = refl
-digit-end (L ∷ rest) d k = rw (append-nil rest) (frame-short L rest none (endFrom (2 * suc (length rest) + 1) []) (k .0) (k .1))
+digit-end (L ∷ rest) d k =
+    rw (append-nil rest) (frame-short L rest none (endFrom (2 * suc (length rest) + 1) []) (k .0) (k .1))
 
 -- from the start on it is the judgement of the part
 pub ascii-new : (q : List ℕ) → spelt none [] q ≡ judgeAfter Ascii q
 ascii-new q =
-    frame-end (pairs (digitsOf q)) (noDigit q) (endFrom (2 * 0) q) (ended Ascii q) (λ L rest e. rw (sub-zero (2 * (L + 3))))
+    frame-end (pairs (digitsOf q)) (noDigit q) (endFrom (2 * 0) q) (ended Ascii q)
+    (λ L rest e. rw (sub-zero (2 * (L + 3))))
 
 -- ---- where a digit is due
 
@@ -59,7 +65,8 @@ unfolding pairs
 no-pair none = refl
 no-pair (some h) = refl
 
-no-digit : (held : List ℕ) (high : Option ℕ) (b : ℕ) → Few 2 held → valueOf b ≡ none → (q : List ℕ) → spelt high held (b ∷ q) ≡ plain 2
+no-digit : (held : List ℕ) (high : Option ℕ) (b : ℕ) → Few 2 held → valueOf b ≡ none → (q : List ℕ)
+    → spelt high held (b ∷ q) ≡ plain 2
 unfolding digitsOf
 no-digit [] high b k e q = rw (e, no-pair high, lt-ltb 0 (suc (length q)) (omega arith))
 no-digit (L ∷ rest) high b k e q =
@@ -72,7 +79,8 @@ drop-one n k b q h =
     let e : n - k ≡ suc (n - (k + 1)) = omega arith in
     rw e
 
-below : (held : List ℕ) (high : Option ℕ) (more : List ℕ) → Few 2 held → (L : ℕ) (rest : List ℕ) → held ++ more ≡ L ∷ rest
+below : (held : List ℕ) (high : Option ℕ) (more : List ℕ) → Few 2 held → (L : ℕ) (rest : List ℕ)
+    → held ++ more ≡ L ∷ rest
     → spent held high < 2 * (L + 3)
 below [] none more k L rest e = omega arith
 below [] (some h) more k L rest e = omega arith
@@ -80,7 +88,8 @@ below (L′ ∷ m) none more k L rest e = let s : L′ ≡ L = cc in omega arith
 below (L′ ∷ m) (some h) more k L rest e = let s : L′ ≡ L = cc in omega arith
 
 spend : (held : List ℕ) (high : Option ℕ) (b d : ℕ) (q : List ℕ) → Few 2 held → valueOf b ≡ some d
-    → spelt high held (b ∷ q) ≡ frameJudged (held ++ pairs (andPending high (d ∷ digitsOf q))) (noDigit q) (endFrom (spent held high + 1) q)
+    → spelt high held (b ∷ q)
+    ≡ frameJudged (held ++ pairs (andPending high (d ∷ digitsOf q))) (noDigit q) (endFrom (spent held high + 1) q)
 unfolding digitsOf
 spend held high b d q k e =
     let bytes = pairs (andPending high (d ∷ digitsOf q)) in
@@ -122,13 +131,16 @@ paired (L ∷ rest) h d b e =
       framing = refl;
       grown = omega (arith, length-snoc rest x);
       fits = λ k. ((k .0 .0, omega (arith, length-snoc rest x, k .0 .1)), refl);
-      left = λ k q. spend (L ∷ rest) (some h) b d q (k .0) e ∙ rw (append-snoc rest x (pairs (digitsOf q)), length-snoc rest x, two);
+      left = λ k q.
+          spend (L ∷ rest) (some h) b d q (k .0) e
+          ∙ rw (append-snoc rest x (pairs (digitsOf q)), length-snoc rest x, two);
     } in
     on goes-on
 
 -- no digit where one is due
 none-due : (m : Mode) (high : Option ℕ) (held : List ℕ) (b : ℕ) → ((q : List ℕ) → leftOf m held q ≡ spelt high held q)
-    → isOpen m ≡ true → framingOf m ≡ Ascii → (Fits m held → Few 2 held) → valueOf b ≡ none → Does m held b (ends Ascii (handing 2 []) held)
+    → isOpen m ≡ true → framingOf m ≡ Ascii → (Fits m held → Few 2 held) → valueOf b ≡ none
+    → Does m held b (ends Ascii (handing 2 []) held)
 none-due m high held b same o f few e =
     let decides : Over m held b Ascii (handing 2 []) held = record {
       was = o;
@@ -142,7 +154,8 @@ none-due m high held b same o f few e =
     over decides
 
 -- the first digit of a pair
-digit-due : (held : List ℕ) (b : ℕ) → (Few 3 held → Few 2 held) → (o : Option ℕ) → valueOf b ≡ o → Does (Open Ascii) held b (takesDigit none held o)
+digit-due : (held : List ℕ) (b : ℕ) → (Few 3 held → Few 2 held) → (o : Option ℕ) → valueOf b ≡ o
+    → Does (Open Ascii) held b (takesDigit none held o)
 digit-due held b few none e = none-due (Open Ascii) none held b (λ q. refl) refl refl (λ k. few (k .0)) e
 digit-due held b few (some d) e =
     let goes-on : On (Open Ascii) held b (Digit d) held = record {
@@ -156,7 +169,8 @@ digit-due held b few (some d) e =
     on goes-on
 
 -- the second
-second-due : (held : List ℕ) (h b : ℕ) (o : Option ℕ) → valueOf b ≡ o → Does (Digit h) held b (takesDigit (some h) held o)
+second-due : (held : List ℕ) (h b : ℕ) (o : Option ℕ) → valueOf b ≡ o
+    → Does (Digit h) held b (takesDigit (some h) held o)
 second-due held h b none e = none-due (Digit h) (some h) held b (λ q. refl) refl refl (λ k. k .0) e
 second-due held h b (some d) e = paired held h d b e
 

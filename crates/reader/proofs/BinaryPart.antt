@@ -14,19 +14,30 @@ use Rattle.standard.specs.Messages.{lengthOk}
 use Rattle.standard.proofs.Messages.{length-ok}
 use Rattle.standard.specs.Framing.{Recovered, also, unstuff}
 use Rattle.standard.specs.Judge.{handing, decided, unfinished, ended, wholeOf}
+use Rattle.standard.proofs.Decided.{whole-front}
 use Rattle.reader.specs.declared.Mode.{Mode}
 use Rattle.reader.specs.declared.Mode.the-variants.{Open, Escape}
 use Rattle.reader.specs.Step.{framingOf, goes, ends, takes, goesOn}
 use Rattle.reader.proofs.Soundness.{Few, Fits}
-use Rattle.reader.proofs.Frames.{length-snoc, by-test, frame-bad, frame-short, frame-full, whole-front, whole-stands, whole-sheet}
+use Rattle.reader.proofs.Frames.{length-snoc, by-test, frame-bad, frame-short, frame-full, whole-stands}
+use Rattle.reader.proofs.Frames.{whole-sheet}
 use Rattle.reader.proofs.Judging.{given, leftOf, isOpen, Does, on, over}
 
 -- the byte b gives back x: the length, a byte of the message or a sum, or the last sum
-takes-binary : (m : Mode) (held : List ℕ) (b x : ℕ) → isOpen m ≡ true → framingOf m ≡ Binary → (Fits m held → Few 2 held)
-    → ((q : List ℕ) → leftOf m held (b ∷ q) ≡ given held (also x (unstuff false q))) → Does m held b (takes Binary held x)
+takes-binary : (m : Mode) (held : List ℕ) (b x : ℕ) → isOpen m ≡ true → framingOf m ≡ Binary
+    → (Fits m held → Few 2 held)
+    → ((q : List ℕ) → leftOf m held (b ∷ q) ≡ given held (also x (unstuff false q)))
+    → Does m held b (takes Binary held x)
 takes-binary m [] b x o f few back =
     by-test (Does m [] b) (lengthOk x) (goes (Open Binary) (x ∷ [])) (ends Binary (handing 4 []) [])
-    (λ e. on (record { was = o; is = refl; framing = sym f; grown = omega arith; fits = λ k. ((e, omega arith), refl); left = λ k q. back q }))
+    (λ e. on (record {
+      was = o;
+      is = refl;
+      framing = sym f;
+      grown = omega arith;
+      fits = λ k. ((e, omega arith), refl);
+      left = λ k q. back q;
+    }))
     (λ e. over (record {
       was = o;
       framing = sym f;
@@ -39,7 +50,8 @@ takes-binary m [] b x o f few back =
 takes-binary m (L ∷ rest) b x o f few back =
     let all = rest ++ (x ∷ []) in
     let grown : length (L ∷ rest) ≤ length (L ∷ all) = omega (arith, length-snoc rest x) in
-    by-test (Does m (L ∷ rest) b) (ltb (suc (length rest)) (L + 2)) (goes (Open Binary) (L ∷ all)) (ends Binary (wholeOf [] L all) (L ∷ all))
+    by-test (Does m (L ∷ rest) b) (ltb (suc (length rest)) (L + 2)) (goes (Open Binary) (L ∷ all))
+    (ends Binary (wholeOf [] L all) (L ∷ all))
     (λ e. on (record {
       was = o;
       is = refl;
@@ -66,7 +78,8 @@ takes-binary m (L ∷ rest) b x o f few back =
         let all = rest ++ (x ∷ []) in
         let longer : L + 2 ≤ length (all ++ u .bytes) = omega (arith, length-append all (u .bytes)) in
         rw (← append-snoc rest x (u .bytes))
-        (frame-full L (all ++ u .bytes) (u .fault) (ended Binary []) (few k .0) longer ∙ ap decided (whole-front [] L all (u .bytes) long))
+        (frame-full L (all ++ u .bytes) (u .fault) (ended Binary []) (few k .0) longer
+        ∙ ap decided (whole-front [] L all (u .bytes) long))
 
 -- a byte with no 7Dh before it
 pub binary : (held : List ℕ) (b : ℕ) → Does (Open Binary) held b (goesOn (Open Binary) held b)

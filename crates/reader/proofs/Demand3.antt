@@ -1,24 +1,28 @@
--- DEMAND 3 for verdicts, type bytes and messages: however a stream is cut into reads, a fresh reader hands out what the parts of the uncut stream
--- do, each judged from its whole bytes. One proof for both framings. Assumes nothing.
+-- DEMAND 3 for verdicts, type bytes and messages: however a stream is cut into reads, a fresh reader hands out what the
+-- parts of the uncut stream do, each judged from its whole bytes. One proof for both framings. Assumes nothing.
 use Prim.Native.Nat.{ℕ, zero, suc, _+_, _-_, _≤_}
 use native.Mathlib.Omega.{arith}
 use mathlib.Core.Path.{_≡_, refl, sym, ap, _∙_}
-use mathlib.Core.Bool.{true}
+use mathlib.Core.Bool.{true, false}
 use mathlib.Core.List.{List, [], _∷_, _++_, append-assoc}
 use lib.ListN.{length, take, drop, length-append, length-drop, take-append-drop}
 use Rattle.standard.specs.declared.Framing.{Framing}
-use Rattle.standard.specs.Messages.{checkOf}
+use Rattle.standard.specs.Messages.{among, checkOf}
 use Rattle.standard.specs.Framing.{startOf, frameOf}
-use Rattle.standard.specs.Judge.{Handed, handing}
+use Rattle.standard.specs.Judge.{Handed, decided, handing, judge}
 use Rattle.standard.specs.Stream.{handedOf}
 use Rattle.standard.proofs.Framings.{Bytes}
+use Rattle.standard.proofs.Decided.{handed-amid-part}
 use Rattle.standard.proofs.Stream.{handed-amid}
 use Rattle.reader.specs.declared.Reader.{Reader}
+use Rattle.reader.specs.Step.{framingOf}
 use Rattle.reader.specs.Read.{Read, scanOf, stateOf, soundReader, freshReader, readOf}
-use Rattle.reader.specs.Calls.{joined, handedBefore, callsOf, drive, Calls, finished, call}
+use Rattle.reader.specs.Calls.{joined, handedBefore, callsOf, drive, Calls, finished, call, streamTo}
+use Rattle.reader.proofs.Soundness.{reader-fits}
 use Rattle.reader.proofs.Arrays.{read-sound, state-read, sound-read}
 use Rattle.reader.proofs.Parts.{run, run-append, run-parts}
 use Rattle.reader.proofs.Scans.{Scanned, scanned}
+use Rattle.reader.proofs.Leads.{lead-on}
 
 -- ---- one call
 
@@ -28,7 +32,8 @@ module _ (r : Reader) (bs : List ℕ) (h : soundReader r ≡ true) where
 
   -- what a call hands out, then what is left and whatever follows
   one-call : (rest : List ℕ)
-      → run (stateOf r) (bs ++ rest) ≡ readOf r bs .said ++ run (stateOf (readOf r bs .reader)) (drop (readOf r bs .used) bs ++ rest)
+      → run (stateOf r) (bs ++ rest)
+      ≡ readOf r bs .said ++ run (stateOf (readOf r bs .reader)) (drop (readOf r bs .used) bs ++ rest)
   one-call rest =
       let s = stateOf r in
       let first = take (scan .used) bs in
@@ -49,14 +54,23 @@ module _ (r : Reader) (bs : List ℕ) (h : soundReader r ≡ true) where
 
 -- ---- every caller
 
-calls-run : {r : Reader} {reads : List (List ℕ)} {hs : List Handed} → Calls r reads hs → soundReader r ≡ true → hs ≡ run (stateOf r) (joined reads)
+calls-run : {r : Reader} {reads : List (List ℕ)} {hs : List Handed} → Calls r reads hs → soundReader r ≡ true
+    → hs ≡ run (stateOf r) (joined reads)
 calls-run finished h = refl
 calls-run (call {r} {bs} {reads} {again} {hs} e c) h =
     ap (λ l. readOf r bs .said ++ l) (calls-run c (sound-read r bs h) ∙ ap (run (stateOf (readOf r bs .reader))) e)
     ∙ sym (one-call r bs h (joined reads))
 
+-- from every sound reader: what the stream that leads to it and the reads hand out together
+pub sound-caller : (r : Reader) {reads : List (List ℕ)} {hs : List Handed} → soundReader r ≡ true
+    → Bytes (stateOf r .held) → Calls r reads hs
+    → hs ≡ handedOf (framingOf (r .mode)) (streamTo r ++ joined reads)
+sound-caller r {reads} h b c =
+    calls-run c h ∙ sym (lead-on (r .mode) (stateOf r .held) b (reader-fits r h) (joined reads))
+
 -- cut again as it likes
-pub any-caller : (f : Framing) {reads : List (List ℕ)} {hs : List Handed} → Calls (freshReader f) reads hs → hs ≡ handedOf f (joined reads)
+pub any-caller : (f : Framing) {reads : List (List ℕ)} {hs : List Handed} → Calls (freshReader f) reads hs
+    → hs ≡ handedOf f (joined reads)
 any-caller f {reads} c = calls-run c refl ∙ run-parts f [] (joined reads) (tt, refl)
 
 -- ---- the caller that hands in what is left, then the next read
@@ -69,13 +83,16 @@ joined-before (b ∷ left) reads = refl
 abbrev Enough : ℕ → List (List ℕ) → Type 0
 Enough n reads = length (joined reads) + length reads ≤ n
 
-enough-left : (n used : ℕ) (bs left : List ℕ) (reads : List (List ℕ)) → length left ≡ length bs - used → (used ≡ 0 → length bs ≡ 0)
+enough-left : (n used : ℕ) (bs left : List ℕ) (reads : List (List ℕ)) → length left ≡ length bs - used
+    → (used ≡ 0 → length bs ≡ 0)
     → Enough (suc n) (bs ∷ reads) → Enough n (handedBefore left reads)
 enough-left n used bs [] reads e z k = omega (arith, length-append bs (joined reads))
 enough-left n zero bs (b ∷ left) reads e z k = absurd (omega (arith, z refl))
-enough-left n (suc used) bs (b ∷ left) reads e z k = omega (arith, length-append bs (joined reads), length-append left (joined reads))
+enough-left n (suc used) bs (b ∷ left) reads e z k =
+    omega (arith, length-append bs (joined reads), length-append left (joined reads))
 
-calls-made : (n : ℕ) (r : Reader) (reads : List (List ℕ)) → soundReader r ≡ true → Enough n reads → Calls r reads (callsOf n r reads)
+calls-made : (n : ℕ) (r : Reader) (reads : List (List ℕ)) → soundReader r ≡ true → Enough n reads
+    → Calls r reads (callsOf n r reads)
 unfolding callsOf
 calls-made zero r [] h k = finished
 calls-made zero r (bs ∷ reads) h k = absurd (omega arith)
@@ -94,10 +111,46 @@ reads-are-parts f reads =
     any-caller f (calls-made (length (joined reads) + length reads) (freshReader f) reads refl (omega arith))
 
 -- so only the bytes count, and not the cuts
-pub cuts : (f : Framing) (reads others : List (List ℕ)) → joined reads ≡ joined others → drive (freshReader f) reads ≡ drive (freshReader f) others
+pub cuts : (f : Framing) (reads others : List (List ℕ)) → joined reads ≡ joined others
+    → drive (freshReader f) reads ≡ drive (freshReader f) others
 cuts f reads others e = reads-are-parts f reads ∙ ap (handedOf f) e ∙ sym (reads-are-parts f others)
 
--- an intact frame is reported after all kinds of noise, and whatever follows it
-pub intact : (f : Framing) (p m q : List ℕ) (reads : List (List ℕ)) → checkOf m ≡ 0 → Bytes m → joined reads ≡ p ++ (frameOf f m ++ q)
+-- ---- an intact part is reported after all kinds of noise, and whatever follows it
+
+-- every part that is decided: a start byte, and bytes with no start among them of which the whole judgement is h.
+-- From every sound reader, by any caller: what the reader held is noise before it too
+pub intact-sound : (r : Reader) (p part q : List ℕ) (h : Handed) {reads : List (List ℕ)} {hs : List Handed}
+    → soundReader r ≡ true → Bytes (stateOf r .held)
+    → among (startOf (framingOf (r .mode))) part ≡ false
+    → judge (framingOf (r .mode)) (startOf (framingOf (r .mode)) ∷ part) ≡ decided h
+    → joined reads ≡ p ++ (startOf (framingOf (r .mode)) ∷ part ++ q) → Calls r reads hs
+    → hs
+    ≡ handedOf (framingOf (r .mode)) (streamTo r ++ p ++ (startOf (framingOf (r .mode)) ∷ []))
+    ++ (h ∷ handedOf (framingOf (r .mode)) q)
+intact-sound r p part q h s b clear d e c =
+    let f = framingOf (r .mode) in
+    sound-caller r s b c
+    ∙ ap (λ l. handedOf f (streamTo r ++ l)) e
+    ∙ ap (handedOf f) (sym (append-assoc (streamTo r) p (startOf f ∷ part ++ q)))
+    ∙ handed-amid-part f (streamTo r ++ p) part q h clear d
+
+-- from a fresh one
+pub intact-calls : (f : Framing) (p part q : List ℕ) (h : Handed) {reads : List (List ℕ)} {hs : List Handed}
+    → among (startOf f) part ≡ false → judge f (startOf f ∷ part) ≡ decided h
+    → joined reads ≡ p ++ (startOf f ∷ part ++ q)
+    → Calls (freshReader f) reads hs → hs ≡ handedOf f (p ++ (startOf f ∷ [])) ++ (h ∷ handedOf f q)
+intact-calls f p part q h clear d e c = any-caller f c ∙ ap (handedOf f) e ∙ handed-amid-part f p part q h clear d
+
+-- and by the caller that hands in what is left, then the next read
+pub intact-part : (f : Framing) (p part q : List ℕ) (h : Handed) (reads : List (List ℕ))
+    → among (startOf f) part ≡ false → judge f (startOf f ∷ part) ≡ decided h
+    → joined reads ≡ p ++ (startOf f ∷ part ++ q)
+    → drive (freshReader f) reads ≡ handedOf f (p ++ (startOf f ∷ [])) ++ (h ∷ handedOf f q)
+intact-part f p part q h reads clear d e =
+    reads-are-parts f reads ∙ ap (handedOf f) e ∙ handed-amid-part f p part q h clear d
+
+-- the written frame of a good message among them
+pub intact : (f : Framing) (p m q : List ℕ) (reads : List (List ℕ)) → checkOf m ≡ 0 → Bytes m
+    → joined reads ≡ p ++ (frameOf f m ++ q)
     → drive (freshReader f) reads ≡ handedOf f (p ++ (startOf f ∷ [])) ++ (handing 0 m ∷ handedOf f q)
 intact f p m q reads h b e = reads-are-parts f reads ∙ ap (handedOf f) e ∙ handed-amid f p m q h b

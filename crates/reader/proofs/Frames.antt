@@ -1,4 +1,5 @@
--- Laws of the judgement of a part's recovered bytes, as the two framings' proofs use it, and of a whole frame. Assumes nothing.
+-- Laws of the judgement of a part's recovered bytes, as the two framings' proofs use it, and of a whole frame. Assumes
+-- nothing.
 use Prim.Native.Nat.{ℕ, zero, suc, _+_, _≤_, _<_}
 use native.Mathlib.Omega.{arith}
 use mathlib.Core.Path.{_≡_, refl, ap, _∙_}
@@ -6,12 +7,12 @@ use mathlib.Core.Bool.{Bool, true, false, cond, _&&_}
 use mathlib.Core.Option.{Option}
 use mathlib.Core.List.{List, [], _∷_, _++_}
 use lib.Dec.{eqb, leb}
-use lib.ListN.{length, take, drop, List·getD-append, length-append}
-use lib.Seq.{take-append-le}
+use lib.ListN.{length, take, drop, length-append}
 use borrow.Author.Tests.{leb-true, lt-ltb, le-ltb}
 use Rattle.standard.specs.Words.{firstOf}
 use Rattle.standard.specs.Messages.{lengthOk, messageTests}
 use Rattle.standard.specs.Judge.{Judged, plain, stuck, sumsDiffer, wholeOf, frameJudged}
+pub use Rattle.standard.proofs.Decided.{whole-front}
 use Rattle.standard.proofs.Messages.{both-true}
 
 pub length-snoc : (l : List ℕ) (b : ℕ) → length (l ++ (b ∷ [])) ≡ suc (length l)
@@ -28,27 +29,24 @@ pub frame-bad : (L : ℕ) (rest : List ℕ) (fault : Option ℕ) (end : ℕ → 
     → frameJudged (L ∷ rest) fault end ≡ plain 4
 frame-bad L rest fault end h = rw h
 
-pub frame-short : (L : ℕ) (rest : List ℕ) (fault : Option ℕ) (end : ℕ → List ℕ → Judged) → lengthOk L ≡ true → length rest < L + 2
+pub frame-short : (L : ℕ) (rest : List ℕ) (fault : Option ℕ) (end : ℕ → List ℕ → Judged) → lengthOk L ≡ true
+    → length rest < L + 2
     → frameJudged (L ∷ rest) fault end ≡ stuck fault
 frame-short L rest fault end h k = rw (h, lt-ltb (length rest) (L + 2) k)
 
-pub frame-full : (L : ℕ) (rest : List ℕ) (fault : Option ℕ) (end : ℕ → List ℕ → Judged) → lengthOk L ≡ true → L + 2 ≤ length rest
+pub frame-full : (L : ℕ) (rest : List ℕ) (fault : Option ℕ) (end : ℕ → List ℕ → Judged) → lengthOk L ≡ true
+    → L + 2 ≤ length rest
     → frameJudged (L ∷ rest) fault end ≡ end L rest
 frame-full L rest fault end h k = rw (h, le-ltb (length rest) (L + 2) k)
 
 -- two judgements that end alike at the length and the bytes after it
 pub frame-end : (bs : List ℕ) (fault : Option ℕ) (e₁ e₂ : ℕ → List ℕ → Judged)
-    → ((L : ℕ) (rest : List ℕ) → bs ≡ L ∷ rest → e₁ L rest ≡ e₂ L rest) → frameJudged bs fault e₁ ≡ frameJudged bs fault e₂
+    → ((L : ℕ) (rest : List ℕ) → bs ≡ L ∷ rest → e₁ L rest ≡ e₂ L rest)
+    → frameJudged bs fault e₁ ≡ frameJudged bs fault e₂
 frame-end [] fault e₁ e₂ h = refl
 frame-end (L ∷ rest) fault e₁ e₂ h = rw (h L rest refl)
 
 -- ---- a whole frame
-
--- bytes beyond the sums do not count
-pub whole-front : (stop : List (Bool × ℕ)) (L : ℕ) (rest more : List ℕ) → L + 2 ≤ length rest → wholeOf stop L (rest ++ more) ≡ wholeOf stop L rest
-unfolding wholeOf
-whole-front stop L rest more h =
-    rw (take-append-le L rest more (omega arith), List·getD-append rest more 0 L (omega arith), List·getD-append rest more 0 (L + 1) (omega arith))
 
 -- the message stands after the length byte of the bytes kept
 abbrev pub Stands : List ℕ → List ℕ → Type 0
@@ -59,7 +57,8 @@ front-of zero rest more = refl
 front-of (suc n) [] more = refl
 front-of (suc n) (b ∷ rest) more = ap (λ l. b ∷ l) (front-of n rest more)
 
-message-stands : (good : Bool) (L : ℕ) (rest more : List ℕ) → take (length (cond good (take L rest) [])) (rest ++ more) ≡ cond good (take L rest) []
+message-stands : (good : Bool) (L : ℕ) (rest more : List ℕ)
+    → take (length (cond good (take L rest) [])) (rest ++ more) ≡ cond good (take L rest) []
 message-stands true L rest more = front-of L rest more
 message-stands false L rest more = refl
 
@@ -76,9 +75,11 @@ first-sheet : (tests : List (Bool × ℕ)) → onSheet tests ≡ true → firstO
 first-sheet [] k = omega arith
 first-sheet (test ∷ tests) k =
     let x = both-true (leb (test .1) 8) (onSheet tests) k in
-    by-test (λ n. n ≤ 8) (test .0) (test .1) (firstOf tests) (λ e. leb-true (test .1) 8 (x .0)) (λ e. first-sheet tests (x .1))
+    by-test (λ n. n ≤ 8) (test .0) (test .1) (firstOf tests) (λ e. leb-true (test .1) 8 (x .0))
+    (λ e. first-sheet tests (x .1))
 
-pub whole-sheet : (stop : List (Bool × ℕ)) (L : ℕ) (rest : List ℕ) → onSheet (stop ++ ((sumsDiffer L rest, 5) ∷ messageTests (take L rest))) ≡ true
+pub whole-sheet : (stop : List (Bool × ℕ)) (L : ℕ) (rest : List ℕ)
+    → onSheet (stop ++ ((sumsDiffer L rest, 5) ∷ messageTests (take L rest))) ≡ true
     → wholeOf stop L rest .verdict ≤ 8
 unfolding wholeOf
 whole-sheet stop L rest k = first-sheet (stop ++ ((sumsDiffer L rest, 5) ∷ messageTests (take L rest))) k

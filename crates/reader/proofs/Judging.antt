@@ -1,8 +1,8 @@
--- A part judged from inside it: what its open frame hands out, by the bytes held, what is pending and what is still to come. And what one byte
--- bears on that (`Does`), which every other law of the reader goes by. Assumes nothing.
+-- A part judged from inside it: what its open frame hands out, by the bytes held, what is pending and what is still to
+-- come. And what one byte bears on that (`Does`), which every other law of the reader goes by. Assumes nothing.
 use Prim.Native.Nat.{ℕ, _+_, _-_, _*_, _≤_}
 use mathlib.Core.Path.{_≡_}
-use mathlib.Core.Bool.{Bool, true, false, cond}
+use mathlib.Core.Bool.{true, false, cond}
 use mathlib.Core.Option.{Option, none, some}
 use mathlib.Core.List.{List, [], _∷_, _++_}
 use lib.ListN.{length, drop}
@@ -15,6 +15,7 @@ use Rattle.standard.specs.Stream.{partHands}
 use Rattle.reader.specs.declared.Mode.{Mode}
 use Rattle.reader.specs.declared.Mode.the-variants.{Skipping, Open, Escape, Digit}
 use Rattle.reader.specs.Step.{Step, framingOf, goes, ends}
+pub use Rattle.reader.specs.Step.{isOpen}
 use Rattle.reader.proofs.Soundness.{Fits}
 use Rattle.reader.proofs.Frames.{Stands}
 
@@ -47,13 +48,6 @@ leftOf (Open Ascii) held q = spelt none held q
 leftOf Escape held q = given held (unstuff true q)
 leftOf (Digit d) held q = spelt (some d) held q
 
--- in a frame
-abbrev pub isOpen : Mode → Bool
-isOpen (Skipping f) = false
-isOpen (Open f) = true
-isOpen Escape = true
-isOpen (Digit d) = true
-
 -- what the open frame hands out, with these parts after its own; nothing between frames
 abbrev pub openHands : Mode → List ℕ → List ℕ → List (List ℕ) → List Handed
 openHands m held q later = cond (isOpen m) (partHands (leftOf m held q) later) []
@@ -83,4 +77,5 @@ pub record Over (m : Mode) (held : List ℕ) (b : ℕ) (f : Framing) (h : Handed
 pub data Does : Mode → List ℕ → ℕ → Step → Type 0 where
   skips : {f : Framing} {held : List ℕ} {b : ℕ} → Does (Skipping f) held b (goes (Skipping f) held)
   on : {m m′ : Mode} {held held′ : List ℕ} {b : ℕ} → On m held b m′ held′ → Does m held b (goes m′ held′)
-  over : {m : Mode} {held kept : List ℕ} {b : ℕ} {f : Framing} {h : Handed} → Over m held b f h kept → Does m held b (ends f h kept)
+  over : {m : Mode} {held kept : List ℕ} {b : ℕ} {f : Framing} {h : Handed} → Over m held b f h kept
+      → Does m held b (ends f h kept)

@@ -1,5 +1,5 @@
--- What stays in the reader's array: the bytes held begin the bytes kept, a message handed out stands there, and a frame's bytes are not lost while
--- it is open. Assumes nothing.
+-- What stays in the reader's array: the bytes held begin the bytes kept, a message handed out stands there, and a
+-- frame's bytes are not lost while it is open. Assumes nothing.
 use Prim.Native.Nat.{ℕ, _+_, _≤_}
 use native.Mathlib.Nat.{le-refl, le-trans}
 use native.Mathlib.Omega.{arith}
@@ -14,11 +14,11 @@ use Rattle.standard.specs.Framing.{startOf}
 use Rattle.standard.specs.Judge.{Handed, handing}
 use Rattle.reader.specs.declared.Mode.{Mode}
 use Rattle.reader.specs.declared.Mode.the-variants.{Skipping}
-use Rattle.reader.specs.Step.{State, Step, framingOf, soundOf, cutShort, opens, goesOn, stepOf}
+use Rattle.reader.specs.Step.{State, Step, framingOf, isOpen, cutShort, opens, goesOn, stepOf}
 use Rattle.reader.specs.Read.{Read, readOn, scanOf}
-use Rattle.reader.proofs.Soundness.{Fits, state-fits, fits-state, few-held}
+use Rattle.reader.proofs.Soundness.{Fits, few-held}
 use Rattle.reader.proofs.Frames.{by-test, Stands}
-use Rattle.reader.proofs.Judging.{isOpen, Does, skips, on, over}
+use Rattle.reader.proofs.Judging.{Does, skips, on, over}
 use Rattle.reader.proofs.OneByte.{does, cut-is}
 
 -- at most one verdict, whose message stands in the bytes kept
@@ -53,20 +53,42 @@ Keeps s t = Kept s (t .next) (t .said) (t .kept) × (t .said ≡ [] → Quiet s 
 
 does-keep : {m : Mode} {held : List ℕ} {b : ℕ} {t : Step} → Does m held b t → Keeps (record { mode = m; held = held }) t
 does-keep (skips {f} {held} {b}) = (
-  record { begins = inr refl; hands = tt; sheet = tt; fits = λ k. k; few = few-held (Skipping f) held; longer = λ o. absurd (false≢true o) },
+  record {
+    begins = inr refl;
+    hands = tt;
+    sheet = tt;
+    fits = λ k. k;
+    few = few-held (Skipping f) held;
+    longer = λ o. absurd (false≢true o);
+  },
   λ e. record { stays = inl refl; open-on = λ o. absurd (false≢true o) },
 )
 does-keep (on {m} {m′} {held} {held′} x) = (
-  record { begins = inr refl; hands = tt; sheet = tt; fits = x .fits; few = λ k. few-held m′ held′ (x .fits k); longer = λ o. x .grown },
+  record {
+    begins = inr refl;
+    hands = tt;
+    sheet = tt;
+    fits = x .fits;
+    few = λ k. few-held m′ held′ (x .fits k);
+    longer = λ o. x .grown;
+  },
   λ e. record { stays = inr (x .is); open-on = λ o. (x .is, x .grown) },
 )
 does-keep (over x) = (
-  record { begins = inl refl; hands = x .stands; sheet = x .sheet; fits = λ k. (tt, refl); few = x .few; longer = λ o. x .grown },
+  record {
+    begins = inl refl;
+    hands = x .stands;
+    sheet = x .sheet;
+    fits = λ k. (tt, refl);
+    few = x .few;
+    longer = λ o. x .grown;
+  },
   λ e. absurd (cons≢nil e),
 )
 
 -- what a start byte hands out
-by-cut : (P : List Handed → Type 0) (m : Mode) → (isOpen m ≡ true → P (handing 1 [] ∷ [])) → (isOpen m ≡ false → P []) → P (cutShort m)
+by-cut : (P : List Handed → Type 0) (m : Mode) → (isOpen m ≡ true → P (handing 1 [] ∷ [])) → (isOpen m ≡ false → P [])
+    → P (cutShort m)
 by-cut P m cut none = rw (cut-is m) (by-test P (isOpen m) (handing 1 [] ∷ []) [] cut none)
 
 cut-loud : (m : Mode) → cutShort m ≡ [] → isOpen m ≡ true → ⊥
@@ -89,18 +111,14 @@ keeps-step s b =
     ))
     (λ e. does-keep (does (s .mode) (s .held) b))
 
--- ---- soundness
-
+-- what soundness says stays at every byte
 pub fits-step : (s : State) (b : ℕ) → Fits (s .mode) (s .held) → Fits (stepOf s b .next .mode) (stepOf s b .next .held)
 fits-step s b = keeps-step s b .0 .fits
 
--- a sound state stays sound at every byte
-pub sound-step : (s : State) (b : ℕ) → soundOf s ≡ true → soundOf (stepOf s b .next) ≡ true
-sound-step s b h = fits-state (stepOf s b .next) (fits-step s b (state-fits s h))
-
 -- ---- a read
 
-keeps-on : (s : State) (o : List Handed) (first : Step) (later : Read) → Kept s (first .next) o (first .kept) → (o ≡ [] → Quiet s (first .next))
+keeps-on : (s : State) (o : List Handed) (first : Step) (later : Read) → Kept s (first .next) o (first .kept)
+    → (o ≡ [] → Quiet s (first .next))
     → Kept (first .next) (later .next) (later .said) (later .kept)
     → Kept s (readOn o first later .next) (readOn o first later .said) (readOn o first later .kept)
 keeps-on s [] first later k q w = record {

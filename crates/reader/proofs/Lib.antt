@@ -9,6 +9,7 @@ pub mod Arrays
 pub mod Handing
 pub mod Parts
 pub mod Scans
+pub mod Leads
 pub mod Demand3
 pub mod Used
 pub mod Unique

@@ -1,4 +1,5 @@
--- What one byte does, in every mode: it leaves the framing alone, and what it hands out is what the part would have. Assumes nothing.
+-- What one byte does, in every mode: it leaves the framing alone, and what it hands out is what the part would have.
+-- Assumes nothing.
 use Prim.Native.Nat.{ℕ}
 use mathlib.Core.Path.{_≡_, refl}
 use mathlib.Core.Bool.{true, false, cond}
@@ -34,11 +35,13 @@ does-framing (over x) = x .framing
 pub framing-step : (s : State) (b : ℕ) → framingOf (stepOf s b .next .mode) ≡ framingOf (s .mode)
 unfolding stepOf
 framing-step s b =
-    by-test (λ t. framingOf (t .next .mode) ≡ framingOf (s .mode)) (eqb b (startOf (framingOf (s .mode)))) (opens s) (goesOn (s .mode) (s .held) b)
+    by-test (λ t. framingOf (t .next .mode) ≡ framingOf (s .mode)) (eqb b (startOf (framingOf (s .mode)))) (opens s)
+    (goesOn (s .mode) (s .held) b)
     (λ e. refl) (λ e. does-framing (does (s .mode) (s .held) b))
 
 -- what the byte and the state after it hand out is what the part would have
-does-hands : {m : Mode} {held : List ℕ} {b : ℕ} {t : Step} → Does m held b t → Fits m held → (q : List ℕ) (later : List (List ℕ))
+does-hands : {m : Mode} {held : List ℕ} {b : ℕ} {t : Step} → Does m held b t → Fits m held
+    → (q : List ℕ) (later : List (List ℕ))
     → openHands m held (b ∷ q) later ≡ t .said ++ openHands (t .next .mode) (t .next .held) q later
 does-hands skips k q later = refl
 does-hands (on x) k q later = rw (x .was, x .is, x .left k q)
@@ -46,7 +49,8 @@ does-hands (over x) k q later = rw (x .was, x .left k q)
 
 -- in a part, by a byte that is no start
 pub hands-on : (m : Mode) (held : List ℕ) (b : ℕ) → Fits m held → (q : List ℕ) (later : List (List ℕ))
-    → openHands m held (b ∷ q) later ≡ goesOn m held b .said ++ openHands (goesOn m held b .next .mode) (goesOn m held b .next .held) q later
+    → openHands m held (b ∷ q) later
+    ≡ goesOn m held b .said ++ openHands (goesOn m held b .next .mode) (goesOn m held b .next .held) q later
 hands-on m held b k q later = does-hands (does m held b) k q later
 
 -- a start byte cuts an open frame short
@@ -65,7 +69,8 @@ left-end Escape held k = binary-end held true (k .0)
 left-end (Digit d) held k = digit-end held d (k .0)
 
 -- at a start byte
-pub hands-cut : (m : Mode) (held part : List ℕ) (later : List (List ℕ)) → Fits m held → openHands m held [] (part ∷ later) ≡ cutShort m
+pub hands-cut : (m : Mode) (held part : List ℕ) (later : List (List ℕ)) → Fits m held
+    → openHands m held [] (part ∷ later) ≡ cutShort m
 hands-cut m held part later k = rw (left-end m held k, cut-is m)
 
 -- at the end

@@ -1,5 +1,5 @@
--- Stepped through, a stream hands out what its parts do, each judged by itself: from every sound state, and one proof for both framings.
--- Assumes nothing.
+-- Stepped through, a stream hands out what its parts do, each judged by itself: from every sound state, and one proof
+-- for both framings. Assumes nothing.
 use Prim.Native.Nat.{ℕ}
 use mathlib.Core.Path.{_≡_, refl}
 use mathlib.Core.Bool.{Bool, true, false}
@@ -39,10 +39,12 @@ module _ (s : State) (b : ℕ) (bs : List ℕ) (k : Fits (s .mode) (s .held)) wh
   f = framingOf (s .mode)
 
   -- a start byte, or another
-  one-more : (t : Bool) → eqb b (startOf f) ≡ t → stepOf s b .said ++ partsFrom f (stepOf s b .next) bs ≡ partsFrom f s (b ∷ bs)
+  one-more : (t : Bool) → eqb b (startOf f) ≡ t
+      → stepOf s b .said ++ partsFrom f (stepOf s b .next) bs ≡ partsFrom f s (b ∷ bs)
   unfolding stepOf
   one-more true e =
-      rw (e, hands-cut (s .mode) (s .held) (b ∷ upToStart (startOf f) bs) (partsOf (startOf f) bs) k, hands-new f (upToStart (startOf f) bs))
+      let part = upToStart (startOf f) bs in
+      rw (e, hands-cut (s .mode) (s .held) (b ∷ part) (partsOf (startOf f) bs) k, hands-new f part)
   one-more false e =
       rw (e, hands-on (s .mode) (s .held) b k (upToStart (startOf f) bs) (partsOf (startOf f) bs), append-assoc)
 
@@ -50,8 +52,10 @@ module _ (s : State) (b : ℕ) (bs : List ℕ) (k : Fits (s .mode) (s .held)) wh
 pub by-parts : (s : State) (bs : List ℕ) → Fits (s .mode) (s .held) → run s bs ≡ partsFrom (framingOf (s .mode)) s bs
 by-parts s [] k = rw (hands-none (s .mode) (s .held) k)
 by-parts s (b ∷ bs) k =
-    rw (by-parts (stepOf s b .next) bs (fits-step s b k), framing-step s b) (one-more s b bs k (eqb b (startOf (framingOf (s .mode)))) refl)
+    rw (by-parts (stepOf s b .next) bs (fits-step s b k), framing-step s b)
+    (one-more s b bs k (eqb b (startOf (framingOf (s .mode)))) refl)
 
 -- from a reader between frames, whatever it holds
-pub run-parts : (f : Framing) (held bs : List ℕ) → Fits (Skipping f) held → run (record { mode = Skipping f; held = held }) bs ≡ handedOf f bs
+pub run-parts : (f : Framing) (held bs : List ℕ) → Fits (Skipping f) held
+    → run (record { mode = Skipping f; held = held }) bs ≡ handedOf f bs
 run-parts f held bs k = by-parts (record { mode = Skipping f; held = held }) bs k

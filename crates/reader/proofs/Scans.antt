@@ -18,7 +18,8 @@ pub record Scanned (s : State) (bs : List ℕ) (r : Read) : Type 0 where
   pub none-sooner : (k : ℕ) → k < r .used → run s (take k bs) ≡ []
   pub or-all : r .said ≡ [] → r .used ≡ length bs
 
-scan-on : (s : State) (b : ℕ) (bs : List ℕ) (o : List Handed) → stepOf s b .said ≡ o → Hands o (stepOf s b .kept) → (later : Read)
+scan-on : (s : State) (b : ℕ) (bs : List ℕ) (o : List Handed) → stepOf s b .said ≡ o → Hands o (stepOf s b .kept)
+    → (later : Read)
     → Scanned (stepOf s b .next) bs later → Scanned s (b ∷ bs) (readOn o (stepOf s b) later)
 scan-on s b bs [] e h later w = record {
   within = omega (arith, w .within);
@@ -46,7 +47,13 @@ scan-on s b bs (h ∷ g ∷ hs) e k later w = absurd k
 
 pub scanned : (s : State) (bs : List ℕ) → Scanned s bs (scanOf s bs)
 unfolding scanOf
-scanned s [] = record { within = omega arith; here = refl; goes-to = refl; none-sooner = λ k l. absurd (omega arith); or-all = λ q. refl }
+scanned s [] = record {
+  within = omega arith;
+  here = refl;
+  goes-to = refl;
+  none-sooner = λ k l. absurd (omega arith);
+  or-all = λ q. refl;
+}
 scanned s (b ∷ bs) =
     let t = stepOf s b in
     scan-on s b bs (t .said) refl (keeps-step s b .0 .hands) (scanOf (t .next) bs) (scanned (t .next) bs)

@@ -33,19 +33,23 @@ kept-short : (t : Bool) (m : List ℕ) → length m ≤ longest → length (cond
 kept-short true m h = h
 kept-short false m h = zero-le
 
-whole-short : (stop : List (Bool × ℕ)) (L : ℕ) (rest : List ℕ) → lengthOk L ≡ true → length (wholeOf stop L rest .message) ≤ longest
+whole-short : (stop : List (Bool × ℕ)) (L : ℕ) (rest : List ℕ) → lengthOk L ≡ true
+    → length (wholeOf stop L rest .message) ≤ longest
 unfolding wholeOf
 whole-short stop L rest k =
     let w : L ≤ longest = length-ok L k .few in
-    kept-short (eqb (firstOf (stop ++ ((sumsDiffer L rest, 5) ∷ messageTests (take L rest)))) 0) (take L rest) (omega (arith, length-take L rest))
+    kept-short (eqb (firstOf (stop ++ ((sumsDiffer L rest, 5) ∷ messageTests (take L rest)))) 0) (take L rest)
+    (omega (arith, length-take L rest))
 
 takes-short : (f : Framing) (m : Mode) (held : List ℕ) (b : ℕ) → Fits m held → Short (takes f held b .said)
 takes-short f m [] b k = by-test (λ (t : Step). Short (t .said)) (lengthOk b) _ _ (λ e. tt) (λ e. zero-le)
 takes-short Binary m (L ∷ rest) b k =
-    by-test (λ (t : Step). Short (t .said)) (ltb (suc (length rest)) (L + 2)) _ _ (λ e. tt) (λ e. whole-short [] L (rest ++ (b ∷ [])) (k .0 .0))
+    by-test (λ (t : Step). Short (t .said)) (ltb (suc (length rest)) (L + 2)) _ _ (λ e. tt)
+    (λ e. whole-short [] L (rest ++ (b ∷ [])) (k .0 .0))
 takes-short Ascii m (L ∷ rest) b k = tt
 
-digit-short : (m : Mode) (high : Option ℕ) (held : List ℕ) (digit : Option ℕ) → Fits m held → Short (takesDigit high held digit .said)
+digit-short : (m : Mode) (high : Option ℕ) (held : List ℕ) (digit : Option ℕ) → Fits m held
+    → Short (takesDigit high held digit .said)
 digit-short m high held none k = zero-le
 digit-short m none held (some d) k = tt
 digit-short m (some h) held (some d) k = takes-short Ascii m held _ k
@@ -74,16 +78,20 @@ cut-short (Digit d) held = zero-le
 step-short : (s : State) (b : ℕ) → Fits (s .mode) (s .held) → Short (stepOf s b .said)
 unfolding stepOf
 step-short s b k =
-    by-test (λ (t : Step). Short (t .said)) (eqb b (startOf (framingOf (s .mode)))) _ _ (λ e. cut-short (s .mode) (s .held)) (λ e. on-short (s .mode) (s .held) b k)
+    by-test (λ (t : Step). Short (t .said)) (eqb b (startOf (framingOf (s .mode)))) _ _
+    (λ e. cut-short (s .mode) (s .held)) (λ e. on-short (s .mode) (s .held) b k)
 
-on-by : (said : List Handed) (first : Step) (later : Read) → Short said → Short (later .said) → Short (readOn said first later .said)
+on-by : (said : List Handed) (first : Step) (later : Read) → Short said → Short (later .said)
+    → Short (readOn said first later .said)
 on-by [] first later p q = q
 on-by (h ∷ hs) first later p q = p
 
 scan-short : (s : State) (bs : List ℕ) → Fits (s .mode) (s .held) → Short (scanOf s bs .said)
 unfolding scanOf
 scan-short s [] k = tt
-scan-short s (b ∷ bs) k = on-by (stepOf s b .said) (stepOf s b) (scanOf (stepOf s b .next) bs) (step-short s b k) (scan-short (stepOf s b .next) bs (fits-step s b k))
+scan-short s (b ∷ bs) k =
+    on-by (stepOf s b .said) (stepOf s b) (scanOf (stepOf s b .next) bs) (step-short s b k)
+    (scan-short (stepOf s b .next) bs (fits-step s b k))
 
 pub read-short : (r : Reader) (bs : List ℕ) → soundReader r ≡ true → Short (readOf r bs .said)
 read-short r bs h = rw (read-sound r bs h) (scan-short (stateOf r) bs (reader-fits r h))

@@ -1,20 +1,21 @@
--- Soundness as facts on the bytes held: a sound reader holds at most `longest + 3`, and they make a sound state. Assumes nothing.
+-- Soundness as facts on the bytes held: a sound reader holds at most `longest + 3`, and they make a sound state.
+-- Assumes nothing.
 use Prim.Native.Nat.{ℕ, zero, suc, _+_, _≤_, _<_}
 use native.Mathlib.Omega.{arith}
-use mathlib.Core.Path.{_≡_}
-use mathlib.Core.Bool.{true, _&&_, _||_}
-use mathlib.Core.List.{List, [], _∷_, _++_, append-nil}
+use mathlib.Core.Path.{_≡_, refl}
+use mathlib.Core.Bool.{true, false, _&&_, _||_}
+use mathlib.Core.List.{List, [], _∷_, _++_}
 use lib.Dec.{eqb, leb, eqb·suc-zero}
 use lib.ListN.{length, getD, take, length-take}
-use lib.Seq.{take-length}
 use borrow.Author.Tests.{leb-true, le-leb}
+use Rattle.standard.specs.declared.Framing.{Framing}
 use Rattle.standard.specs.declared.Framing.the-variants.{Binary, Ascii}
 use Rattle.standard.specs.Messages.{longest, lengthOk}
 use Rattle.standard.proofs.Messages.{both-true, length-ok}
 use Rattle.reader.specs.declared.Mode.{Mode}
 use Rattle.reader.specs.declared.Mode.the-variants.{Skipping, Open, Escape, Digit}
 use Rattle.reader.specs.declared.Reader.{Reader}
-use Rattle.reader.specs.Step.{State, beyondLength, pendingOk, soundWith, soundOf}
+use Rattle.reader.specs.Step.{beyondLength, pendingOk, soundWith}
 use Rattle.reader.specs.Read.{soundReader}
 
 -- none held, or first a length L, and at most L + beyond in all
@@ -57,17 +58,12 @@ front-fits m (suc n) (L ∷ rest) h =
 pub reader-fits : (r : Reader) → soundReader r ≡ true → Fits (r .mode) (take (r .held) (r .bytes))
 reader-fits r h = front-fits (r .mode) (r .held) (r .bytes) h
 
-pub state-fits : (s : State) → soundOf s ≡ true → Fits (s .mode) (s .held)
-state-fits s h = rw (take-length (s .held)) at (front-fits (s .mode) (length (s .held)) (s .held) h)
-
 -- bytes held that a list begins with
-pub fits-sound : (m : Mode) (held more : List ℕ) → Fits m held → soundWith m (length held) (getD (held ++ more) 0 0) ≡ true
+pub fits-sound : (m : Mode) (held more : List ℕ) → Fits m held
+    → soundWith m (length held) (getD (held ++ more) 0 0) ≡ true
 fits-sound m [] more k = k .1
 fits-sound m (L ∷ rest) more k =
     rw (eqb·suc-zero (length rest), k .0 .0, le-leb (suc (length rest)) (L + beyondLength m) (k .0 .1), k .1)
-
-pub fits-state : (s : State) → Fits (s .mode) (s .held) → soundOf s ≡ true
-fits-state s k = rw append-nil at (fits-sound (s .mode) (s .held) [] k)
 
 bounded : (m : Mode) (n L : ℕ) → (lengthOk L ≡ true) × (n < L + beyondLength m) → suc n ≤ longest + 3
 bounded m n L k = omega (arith, k .1, length-ok L (k .0) .few, beyond-le m)
@@ -83,3 +79,14 @@ number-held m (suc n) L h = bounded m n L (sound-sized m n L h)
 -- a sound reader's bytes fit into its array
 pub sound-held : (r : Reader) → soundReader r ≡ true → r .held ≤ longest + 3
 sound-held r h = number-held (r .mode) (r .held) (getD (r .bytes) 0 0) h
+
+-- ---- what no stream shows
+
+-- between frames a reader that holds bytes, as none met does, is sound where one in a frame is
+pub sound-between : (f : Framing) (n L : ℕ) → soundWith (Skipping f) n L ≡ soundWith (Open f) n L
+sound-between Binary n L = refl
+sound-between Ascii n L = refl
+
+-- and an array without bytes holds none
+pub sound-empty : (m : Mode) (n : ℕ) → soundReader (record { mode = m; held = suc n; bytes = [] }) ≡ false
+sound-empty m n = rw (eqb·suc-zero n)

@@ -1,6 +1,6 @@
--- Document 01: "Given a read, the reader goes up to and including the first verdict's byte, or to the end, and says how many bytes it used."
--- And what `step` and `read` promise. Assumes nothing.
-use Prim.Native.Nat.{ℕ, suc}
+-- Document 01: "Given a read, the reader goes up to and including the first verdict's byte, or to the end, and says how
+-- many bytes it used." And what `step` and `read` promise. Assumes nothing.
+use Prim.Native.Nat.{ℕ, suc, _+_}
 use mathlib.Core.Path.{_≡_}
 use mathlib.Core.Bool.{Bool, cond}
 use mathlib.Core.List.{List, [], _∷_, map}
@@ -8,6 +8,7 @@ use lib.ListN.{length, getD, take, replicate}
 use Rattle.standard.specs.declared.Framing.{Framing}
 use Rattle.standard.specs.declared.Said.{Said}
 use Rattle.standard.specs.Words.{laid}
+use Rattle.standard.specs.Messages.{longest}
 use Rattle.standard.specs.Judge.{Handed, handing, verdictFor, verdictsIn, handedIn}
 use Rattle.reader.specs.declared.Mode.the-variants.{Skipping}
 use Rattle.reader.specs.declared.Reader.{Reader}
@@ -39,9 +40,9 @@ stateOf r = record { mode = r .mode; held = take (r .held) (r .bytes) }
 abbrev pub soundReader : Reader → Bool
 soundReader r = soundWith (r .mode) (r .held) (getD (r .bytes) 0 0)
 
--- a reader that has seen nothing
+-- a reader that has seen nothing; its array has room for the length, the longest message and two sums
 abbrev pub freshReader : Framing → Reader
-freshReader f = record { mode = Skipping f; held = 0; bytes = replicate 21 0 }
+freshReader f = record { mode = Skipping f; held = 0; bytes = replicate (longest + 3) 0 }
 
 -- the reader after a read or a byte: the frame's bytes stand at the beginning of the array, and its other bytes stay
 abbrev pub readerAfter : Reader → State → List ℕ → Reader

@@ -1,12 +1,12 @@
--- Document 01: "A reader is a value: a byte goes in, the next reader and at most one verdict come out." Here over the bytes held and what is
--- pending; that the verdicts are those of the stream's parts is a theorem. Assumes nothing.
+-- Document 01: "A reader is a value: a byte goes in, the next reader and at most one verdict come out." Here over the
+-- bytes held and what is pending; that the verdicts are those of the stream's parts is a theorem. Assumes nothing.
 use Prim.Native.Nat.{ℕ, suc, _+_, _*_}
-use mathlib.Core.Bool.{Bool, true, cond, not, _&&_, _||_}
+use mathlib.Core.Bool.{Bool, true, false, cond, not, _&&_, _||_}
 use mathlib.Core.Option.{Option, none, some}
 use mathlib.Core.List.{List, [], _∷_, _++_}
 use lib.Bits.{bitXor}
 use lib.Dec.{eqb, leb, ltb}
-use lib.ListN.{length, getD}
+use lib.ListN.{length}
 use Rattle.standard.specs.declared.Framing.{Framing}
 use Rattle.standard.specs.declared.Framing.the-variants.{Binary, Ascii}
 use Rattle.standard.specs.Messages.{lengthOk}
@@ -26,6 +26,13 @@ framingOf (Open f) = f
 framingOf Escape = Binary
 framingOf (Digit d) = Ascii
 
+-- in a frame
+abbrev pub isOpen : Mode → Bool
+isOpen (Skipping f) = false
+isOpen (Open f) = true
+isOpen Escape = true
+isOpen (Digit d) = true
+
 -- ---- soundness
 
 -- "at most L + 2 recovered bytes in binary, L + 3 in ASCII (the stop is then due and no digit pending)"
@@ -44,16 +51,15 @@ pendingOk (Open f) = true
 pendingOk Escape = true
 pendingOk (Digit d) = leb d 15
 
--- "sound when it holds no recovered byte, or when the first is a length L of 1 to 18 and it holds at most .. recovered bytes"; n bytes are held
+-- "sound when it holds no recovered byte, or when the first is a length L of 1 to 18 and it holds at most .. recovered
+-- bytes"; n bytes are held
 abbrev pub soundWith : Mode → ℕ → ℕ → Bool
 soundWith mode n L = (eqb n 0 || lengthOk L && leb n (L + beyondLength mode)) && pendingOk mode
 
-abbrev pub soundOf : State → Bool
-soundOf s = soundWith (s .mode) (length (s .held)) (getD (s .held) 0 0)
-
 -- ---- one byte
 
--- the next state, at most one verdict, and the bytes of the frame that the byte was read in, which stay where they stand after its verdict too
+-- the next state, at most one verdict, and the bytes of the frame that the byte was read in, which stay where they
+-- stand after its verdict too
 pub record Step : Type 0 where
   pub next : State
   pub said : List Handed
@@ -74,13 +80,15 @@ cutShort Escape = handing 1 [] ∷ []
 cutShort (Digit d) = handing 1 [] ∷ []
 
 abbrev pub opens : State → Step
-opens s = record { next = record { mode = Open (framingOf (s .mode)); held = [] }; said = cutShort (s .mode); kept = s .held }
+opens s =
+    record { next = record { mode = Open (framingOf (s .mode)); held = [] }; said = cutShort (s .mode); kept = s .held }
 
 -- a recovered byte more: 4 "at the length byte"; in binary the last sum byte decides
 abbrev pub takes : Framing → List ℕ → ℕ → Step
 takes f [] b = cond (lengthOk b) (goes (Open f) (b ∷ [])) (ends f (handing 4 []) [])
 takes Binary (L ∷ rest) b =
-    cond (ltb (suc (length rest)) (L + 2)) (goes (Open Binary) (L ∷ rest ++ (b ∷ []))) (ends Binary (wholeOf [] L (rest ++ (b ∷ []))) (L ∷ rest ++ (b ∷ [])))
+    cond (ltb (suc (length rest)) (L + 2)) (goes (Open Binary) (L ∷ rest ++ (b ∷ [])))
+    (ends Binary (wholeOf [] L (rest ++ (b ∷ []))) (L ∷ rest ++ (b ∷ [])))
 takes Ascii (L ∷ rest) b = goes (Open Ascii) (L ∷ rest ++ (b ∷ []))
 
 -- a byte where a digit is due, with the high digit before it, if it is the second

@@ -1,5 +1,5 @@
--- Laws of the two framings, each over both: what was coded is recovered, whatever follows it; what is coded holds neither start nor stop.
--- Assumes nothing.
+-- Laws of the two framings, each over both: what was coded is recovered, whatever follows it; and what is coded holds
+-- neither start nor stop. Assumes nothing.
 use Prim.Native.Nat.{ℕ, zero, suc, _+_, _-_, _*_, _/_, _%_, _≤_, _<_}
 use native.Mathlib.Nat.{div-add-mod'}
 use native.Mathlib.Numerals.{add-one}
@@ -15,16 +15,13 @@ use lib.Seq.{take-suc}
 use borrow.Author.Tests.{eqb-true, eqb-false, ltb-true, ltb-false, leb-true, lt-ltb, le-ltb, ne-eqb, le-leb, lt-leb}
 use Rattle.standard.specs.declared.Framing.{Framing}
 use Rattle.standard.specs.declared.Framing.the-variants.{Binary, Ascii}
+pub use Rattle.standard.specs.Words.{Bytes}
 use Rattle.standard.specs.Sums.{sumsOf}
 use Rattle.standard.specs.Messages.{among, checkOf}
 use Rattle.standard.specs.Framing.{startOf, stuffed, digit, twoDigits, coded, coding, bodyOf}
 use Rattle.standard.specs.Framing.{Recovered, also, unstuff, valueOf, andDigit, digitsOf, pairs, recovered}
 use Rattle.standard.proofs.Sum.{sums-small}
 use Rattle.standard.proofs.Messages.{both-true, passed}
-
--- bytes, as memory and line hold them
-abbrev pub Bytes : List ℕ → Type 0
-Bytes bs = (i : ℕ) → getD bs i 0 < 256
 
 pub bytes-none : Bytes []
 bytes-none i = lit≤ tt
@@ -54,7 +51,8 @@ pub data Sent : ℕ → List ℕ → Type 0 where
 pub sent : (b : ℕ) → Sent b (stuffed b)
 sent b = go (eqb b 0x7E) refl (eqb b 0x7D) refl
   where
-    go : (s : Bool) → eqb b 0x7E ≡ s → (t : Bool) → eqb b 0x7D ≡ t → Sent b (cond s (0x7D ∷ 0x5E ∷ []) (cond t (0x7D ∷ 0x5D ∷ []) (b ∷ [])))
+    go : (s : Bool) → eqb b 0x7E ≡ s → (t : Bool) → eqb b 0x7D ≡ t
+        → Sent b (cond s (0x7D ∷ 0x5E ∷ []) (cond t (0x7D ∷ 0x5D ∷ []) (b ∷ [])))
     go true e t k = rw (eqb-true b 0x7E e) start-escaped
     go false e true k = rw (eqb-true b 0x7D k) escape-escaped
     go false e false k = as-it-is b e k
@@ -74,7 +72,8 @@ coding-append f (x ∷ a) b =
     ap (λ (l : List ℕ). coded f x ++ l) (coding-append f a b) ∙ sym (append-assoc (coded f x) (coding f a) (coding f b))
 
 -- the turn of a loop that codes: one more byte
-pub coding-more : (f : Framing) (bs : List ℕ) (i : ℕ) → i < length bs → coding f (take i bs) ++ coded f (getD bs i 0) ≡ coding f (take (i + 1) bs)
+pub coding-more : (f : Framing) (bs : List ℕ) (i : ℕ) → i < length bs
+    → coding f (take i bs) ++ coded f (getD bs i 0) ≡ coding f (take (i + 1) bs)
 unfolding coding flatMap
 coding-more f bs i h =
     sym
@@ -127,7 +126,12 @@ value-digit d h = go (ltb d 10) refl
         rw (le-leb 48 (48 + d) (omega arith), le-leb (48 + d) 57 (omega arith)) (ap some (omega arith))
     go false e =
         let k = ltb-false d 10 e in
-        rw (le-leb 48 (55 + d) (omega arith), lt-leb (55 + d) 57 (omega arith), le-leb 65 (55 + d) (omega arith), le-leb (55 + d) 70 (omega arith))
+        rw (
+          le-leb 48 (55 + d) (omega arith),
+          lt-leb (55 + d) 57 (omega arith),
+          le-leb 65 (55 + d) (omega arith),
+          le-leb (55 + d) 70 (omega arith),
+        )
         (ap some (omega arith))
 
 -- one byte is recovered from what it is sent as
@@ -141,7 +145,8 @@ recover-one : (f : Framing) (b : ℕ) (q : List ℕ) → b < 256 → recovered f
 unfolding digitsOf pairs
 recover-one Binary b q h = recover-sent b (stuffed b) (sent b) q
 recover-one Ascii b q h =
-    rw (value-digit (b / 16) (omega arith), value-digit (b % 16) (omega arith), leb·suc-suc, leb·suc-suc, div-add-mod' b 16)
+    let high = value-digit (b / 16) (omega arith) in
+    rw (high, value-digit (b % 16) (omega arith), leb·suc-suc, leb·suc-suc, div-add-mod' b 16)
 
 -- some bytes before what is recovered
 abbrev pub alsoAll : List ℕ → Recovered → Recovered
@@ -164,7 +169,8 @@ body-bytes m h b =
     let one = sumsOf (length m ∷ m) .one in
     let two = sumsOf (length m ∷ m) .two in
     bytes-cons (length m) (m ++ (one ∷ two ∷ [])) (omega arith)
-    (bytes-append m (one ∷ two ∷ []) b (bytes-cons one (two ∷ []) (omega arith) (bytes-cons two [] (omega arith) bytes-none)))
+    (bytes-append m (one ∷ two ∷ []) b
+    (bytes-cons one (two ∷ []) (omega arith) (bytes-cons two [] (omega arith) bytes-none)))
 
 -- bytes are coded as bytes
 two-bytes : (x y : ℕ) → x < 256 → y < 256 → Bytes (x ∷ y ∷ [])
@@ -185,7 +191,8 @@ coded-bytes Ascii b h =
 pub coding-bytes : (f : Framing) (bs : List ℕ) → Bytes bs → Bytes (coding f bs)
 unfolding coding flatMap
 coding-bytes f [] h = bytes-none
-coding-bytes f (b ∷ bs) h = bytes-append (coded f b) (coding f bs) (coded-bytes f b (h zero)) (coding-bytes f bs (λ i. h (suc i)))
+coding-bytes f (b ∷ bs) h =
+    bytes-append (coded f b) (coding f bs) (coded-bytes f b (h zero)) (coding-bytes f bs (λ i. h (suc i)))
 
 -- ---- neither start nor stop in what is coded
 
@@ -209,7 +216,8 @@ low-no-digit : (x b : ℕ) → x < 48 → among x (twoDigits b) ≡ false
 low-no-digit x b h =
     let high = digit-between (b / 16) in
     let low = digit-between (b % 16) in
-    among-neither x (digit (b / 16)) (digit (b % 16) ∷ []) (λ e. omega arith) (among-neither x (digit (b % 16)) [] (λ e. omega arith) refl)
+    among-neither x (digit (b / 16)) (digit (b % 16) ∷ []) (λ e. omega arith)
+    (among-neither x (digit (b % 16)) [] (λ e. omega arith) refl)
 
 start-not-sent : (b : ℕ) (l : List ℕ) → Sent b l → among 0x7E l ≡ false
 start-not-sent b l start-escaped = refl

@@ -1,5 +1,6 @@
--- Laws of the judgement: a stream's verdicts part at every start byte; the frame of a good message is judged good, whatever follows it; and
--- what is judged good has that message's frame at its beginning, where its bytes are coded again as they came. Assumes nothing.
+-- Laws of the judgement: a stream's verdicts part at every start byte; the frame of a good message is judged good,
+-- whatever follows it; and what is judged good has that message's frame at its beginning, where its bytes are coded
+-- again as they came. Assumes nothing.
 use Prim.Native.Nat.{ℕ, suc, _+_, _*_, _≤_, _<_}
 use native.Mathlib.Numerals.{add-one}
 use native.Mathlib.Omega.{arith}
@@ -17,11 +18,14 @@ use Rattle.standard.specs.declared.Sums.{Sums}
 use Rattle.standard.specs.Words.{firstOf}
 use Rattle.standard.specs.Sums.{sumsOf}
 use Rattle.standard.specs.Messages.{longest, lengthOk, among, messageTests, checkOf}
-use Rattle.standard.specs.Framing.{startOf, stopOf, stuffed, coding, bodyOf, frameOf, Recovered, also, unstuff, digitsOf, pairs, recovered}
-use Rattle.standard.specs.Judge.{Handed, Judged, decided, unfinished, handing, plain, sumsDiffer, wholeOf, atStop, ended, stuck, frameJudged, judgeAfter, judge}
+use Rattle.standard.specs.Framing.{startOf, stopOf, stuffed, coding, bodyOf, frameOf, Recovered, also, unstuff}
+use Rattle.standard.specs.Framing.{digitsOf, pairs, recovered}
+use Rattle.standard.specs.Judge.{Handed, Judged, decided, unfinished, handing, plain, sumsDiffer, wholeOf, atStop}
+use Rattle.standard.specs.Judge.{ended, stuck, frameJudged, judgeAfter, judge}
 use Rattle.standard.specs.Stream.{upToStart, partsOf, partHands, partsHand, handedOf}
 use Rattle.standard.proofs.Messages.{both-true, passed}
-use Rattle.standard.proofs.Framings.{Sent, start-escaped, escape-escaped, as-it-is, sent, Bytes, bytes-front, alsoAll, recovers, coding-append, ascii-length, body-length, Again}
+use Rattle.standard.proofs.Framings.{Sent, start-escaped, escape-escaped, as-it-is, sent, Bytes, bytes-front}
+use Rattle.standard.proofs.Framings.{alsoAll, recovers, coding-append, ascii-length, body-length, Again}
 
 -- ---- a stream parts at a start byte
 
@@ -56,7 +60,8 @@ pub parts-append : (x : ℕ) (p q : List ℕ) → partsOf x (p ++ (x ∷ q)) ≡
 parts-append x [] q = refl
 parts-append x (b ∷ p) q = go (eqb b x) (up-to-start x p q) (parts-append x p q)
   where
-    go : (t : Bool) → upToStart x (p ++ (x ∷ q)) ≡ upToStart x p → partsOf x (p ++ (x ∷ q)) ≡ partsOf x p ++ partsOf x (x ∷ q)
+    go : (t : Bool) → upToStart x (p ++ (x ∷ q)) ≡ upToStart x p
+        → partsOf x (p ++ (x ∷ q)) ≡ partsOf x p ++ partsOf x (x ∷ q)
         → cond t ((b ∷ upToStart x (p ++ (x ∷ q))) ∷ partsOf x (p ++ (x ∷ q))) (partsOf x (p ++ (x ∷ q)))
         ≡ cond t ((b ∷ upToStart x p) ∷ partsOf x p) (partsOf x p) ++ partsOf x (x ∷ q)
     go true e k = ap₂ (λ (l : List ℕ) (r : List (List ℕ)). (b ∷ l) ∷ r) e k
@@ -80,15 +85,17 @@ hands-append : (f : Framing) (ps : List (List ℕ)) (part : List ℕ) (later : L
     → partsHand f (ps ++ (part ∷ later)) ≡ partsHand f (ps ++ ((startOf f ∷ []) ∷ [])) ++ partsHand f (part ∷ later)
 hands-append f [] part later = rw (judge-start f)
 hands-append f (p ∷ ps) part later =
+    let first = ps ++ ((startOf f ∷ []) ∷ []) in
     ap₂ _++_ (hands-alike (judge f p) ps part (startOf f ∷ []) later []) (hands-append f ps part later)
-    ∙ sym (append-assoc (partHands (judge f p) (ps ++ ((startOf f ∷ []) ∷ []))) (partsHand f (ps ++ ((startOf f ∷ []) ∷ []))) (partsHand f (part ∷ later)))
+    ∙ sym (append-assoc (partHands (judge f p) first) (partsHand f first) (partsHand f (part ∷ later)))
 
 -- a stream that begins with a start
 pub parts-start : (x : ℕ) (q : List ℕ) → partsOf x (x ∷ q) ≡ (x ∷ upToStart x q) ∷ partsOf x q
 parts-start x q = rw (eq-eqb x x refl)
 
 -- A STREAM PARTS AT A START BYTE: that byte ends what came before, and what comes from it on does not depend on that
-pub handed-append : (f : Framing) (p q : List ℕ) → handedOf f (p ++ (startOf f ∷ q)) ≡ handedOf f (p ++ (startOf f ∷ [])) ++ handedOf f (startOf f ∷ q)
+pub handed-append : (f : Framing) (p q : List ℕ)
+    → handedOf f (p ++ (startOf f ∷ q)) ≡ handedOf f (p ++ (startOf f ∷ [])) ++ handedOf f (startOf f ∷ q)
 handed-append f p q =
     let x = startOf f in
     ap (partsHand f) (parts-append x p q ∙ ap (λ (l : List (List ℕ)). partsOf x p ++ l) (parts-start x q))
@@ -126,14 +133,18 @@ held-whole m more h = rw (held-sums m more, held-message m more, h)
 
 -- the stop place is behind the two characters of each byte
 stop-place : (m q : List ℕ) → drop (2 * (length m + 3)) (coding Ascii (bodyOf m) ++ q) ≡ q
-stop-place m q = drop-at (coding Ascii (bodyOf m)) q (2 * (length m + 3)) (ascii-length (bodyOf m) ∙ ap (λ (n : ℕ). 2 * n) (body-length m))
+stop-place m q =
+    drop-at (coding Ascii (bodyOf m)) q (2 * (length m + 3))
+    (ascii-length (bodyOf m) ∙ ap (λ (n : ℕ). 2 * n) (body-length m))
 
 -- at the end of a frame, with its stop where it is due
 held-ended : (f : Framing) (m more q : List ℕ) → checkOf m ≡ 0
     → ended f (coding f (bodyOf m) ++ (stopOf f ++ q)) (length m) (heldAfter m more) ≡ decided (handing 0 m)
 unfolding wholeOf
 held-ended Binary m more q h = ap decided (held-whole m more h)
-held-ended Ascii m more q h = ap (λ (l : List ℕ). atStop l (length m) (heldAfter m more)) (stop-place m (0x0D ∷ q)) ∙ ap decided (held-whole m more h)
+held-ended Ascii m more q h =
+    ap (λ (l : List ℕ). atStop l (length m) (heldAfter m more)) (stop-place m (0x0D ∷ q))
+    ∙ ap decided (held-whole m more h)
 
 -- a good length and all held: the end decides
 held-judged : (m more : List ℕ) (fault : Option ℕ) (end : ℕ → List ℕ → Judged) → checkOf m ≡ 0
@@ -141,11 +152,16 @@ held-judged : (m more : List ℕ) (fault : Option ℕ) (end : ℕ → List ℕ �
 held-judged m more fault end h =
     let sized = passed m h .sized in
     let long : length m + 2 ≤ length (heldAfter m more) = rw length-append (omega arith) in
-    rw (le-leb 1 (length m) (sized .some), le-leb (length m) longest (sized .few), le-ltb (length (heldAfter m more)) (length m + 2) long)
+    rw (
+      le-leb 1 (length m) (sized .some),
+      le-leb (length m) longest (sized .few),
+      le-ltb (length (heldAfter m more)) (length m + 2) long,
+    )
 
 -- once a good message's body is there, the end decides
 judge-body : (f : Framing) (m q : List ℕ) → checkOf m ≡ 0 → Bytes (bodyOf m)
-    → judgeAfter f (coding f (bodyOf m) ++ q) ≡ ended f (coding f (bodyOf m) ++ q) (length m) (heldAfter m (recovered f q .bytes))
+    → judgeAfter f (coding f (bodyOf m) ++ q)
+    ≡ ended f (coding f (bodyOf m) ++ q) (length m) (heldAfter m (recovered f q .bytes))
 judge-body f m q h b =
     let end = ended f (coding f (bodyOf m) ++ q) in
     let left = recovered f q in
@@ -155,7 +171,8 @@ judge-body f m q h b =
     ∙ held-judged m (left .bytes) (left .fault) end h
 
 -- THE FRAME OF A GOOD MESSAGE IS JUDGED GOOD, whatever follows it
-pub judge-frame : (f : Framing) (m q : List ℕ) → checkOf m ≡ 0 → Bytes (bodyOf m) → judge f (frameOf f m ++ q) ≡ decided (handing 0 m)
+pub judge-frame : (f : Framing) (m q : List ℕ) → checkOf m ≡ 0 → Bytes (bodyOf m)
+    → judge f (frameOf f m ++ q) ≡ decided (handing 0 m)
 unfolding frameOf
 judge-frame f m q h b =
     ap (judgeAfter f) (append-assoc (coding f (bodyOf m)) (stopOf f) q)
@@ -171,7 +188,8 @@ handing-said v l m e =
     (zero, sym (rw (eq-eqb v 0 zero)) ∙ ap (λ (h : Handed). h .message) e)
 
 -- no test holds
-pub first-none : (t : Bool) (n : ℕ) (tests : List (Bool × ℕ)) → (n ≡ 0 → ⊥) → firstOf ((t, n) ∷ tests) ≡ 0 → (t ≡ false) × (firstOf tests ≡ 0)
+pub first-none : (t : Bool) (n : ℕ) (tests : List (Bool × ℕ)) → (n ≡ 0 → ⊥) → firstOf ((t, n) ∷ tests) ≡ 0
+    → (t ≡ false) × (firstOf tests ≡ 0)
 first-none true n tests h e = absurd (h e)
 first-none false n tests h e = (refl, e)
 
@@ -216,7 +234,8 @@ end-said : (bytes : List ℕ) (fault : Option ℕ) (end : ℕ → List ℕ → J
 end-said [] fault end m h e = absurd (stuck-not-good fault m h e)
 end-said (L ∷ rest) fault end m h e = go (lengthOk L) (ltb (length rest) (L + 2)) refl e
   where
-    go : (s t : Bool) → ltb (length rest) (L + 2) ≡ t → cond s (cond t (stuck fault) (end L rest)) (plain 4) ≡ decided (handing 0 m)
+    go : (s t : Bool) → ltb (length rest) (L + 2) ≡ t
+        → cond s (cond t (stuck fault) (end L rest)) (plain 4) ≡ decided (handing 0 m)
         → EndSaid (L ∷ rest) end m
     go true true k q = absurd (stuck-not-good fault m h q)
     go true false k q = record { L = L; rest = rest; held = refl; long = ltb-false (length rest) (L + 2) k; said = q }
@@ -239,16 +258,22 @@ whole-said L rest m e =
     record { check = ap checkOf (sym (said .1)) ∙ tests .1; message = said .1; sums = tests .0 }
 
 -- then message and sums stand there
-whole-held : (L : ℕ) (rest m : List ℕ) → L + 2 ≤ length rest → WholeSaid L rest m → (L ≡ length m) × (rest ≡ heldAfter m (drop (suc (suc L)) rest))
+whole-held : (L : ℕ) (rest m : List ℕ) → L + 2 ≤ length rest → WholeSaid L rest m
+    → (L ≡ length m) × (rest ≡ heldAfter m (drop (suc (suc L)) rest))
 whole-held L rest m h w =
     let size : L ≡ length m = sym (length-take-le L rest (omega arith)) ∙ ap length (w .message) in
     let same = both-true _ _ (not-false _ (w .sums)) in
-    let alike : sumsOf (L ∷ take L rest) ≡ sumsOf (length m ∷ m) = ap₂ (λ (n : ℕ) (l : List ℕ). sumsOf (n ∷ l)) size (w .message) in
+    let alike : sumsOf (L ∷ take L rest) ≡ sumsOf (length m ∷ m) =
+    ap₂ (λ (n : ℕ) (l : List ℕ). sumsOf (n ∷ l)) size (w .message) in
     let one : getD rest L 0 ≡ sumsOf (length m ∷ m) .one = eqb-true _ _ (same .0) ∙ ap (λ (s : Sums). s .one) alike in
-    let two : getD rest (suc L) 0 ≡ sumsOf (length m ∷ m) .two = ap (λ (n : ℕ). getD rest n 0) (sym (add-one L)) ∙ eqb-true _ _ (same .1) ∙ ap (λ (s : Sums). s .two) alike in (
+    let two : getD rest (suc L) 0 ≡ sumsOf (length m ∷ m) .two =
+    ap (λ (n : ℕ). getD rest n 0) (sym (add-one L)) ∙ eqb-true _ _ (same .1) ∙ ap (λ (s : Sums). s .two) alike in
+    let more = drop (suc (suc L)) rest in
+    let second : drop (suc L) rest ≡ sumsOf (length m ∷ m) .two ∷ more =
+    drop-cons rest (suc L) 0 (omega arith) ∙ ap (λ (n : ℕ). n ∷ more) two in (
       size,
       sym (take-append-drop L rest)
-          ∙ ap₂ _++_ (w .message) (drop-cons rest L 0 (omega arith) ∙ ap₂ _∷_ one (drop-cons rest (suc L) 0 (omega arith) ∙ ap (λ (n : ℕ). n ∷ drop (suc (suc L)) rest) two)),
+          ∙ ap₂ _++_ (w .message) (drop-cons rest L 0 (omega arith) ∙ ap₂ _∷_ one second),
     )
 
 -- the stop stood at its place
@@ -260,7 +285,8 @@ record StopSaid (L : ℕ) (rest behind m : List ℕ) : Type 0 where
 stop-said : (L : ℕ) (rest behind m : List ℕ) → atStop behind L rest ≡ decided (handing 0 m) → StopSaid L rest behind m
 unfolding wholeOf
 stop-said L rest [] m e = absurd (let z : _≡_ {A = ℕ} 0 1 = cc in omega arith)
-stop-said L rest (c ∷ cs) m e = go (eqb c 0x0D) refl (decided-same (wholeOf ((not (eqb c 0x0D), 3) ∷ []) L rest) (handing 0 m) e)
+stop-said L rest (c ∷ cs) m e =
+    go (eqb c 0x0D) refl (decided-same (wholeOf ((not (eqb c 0x0D), 3) ∷ []) L rest) (handing 0 m) e)
   where
     go : (t : Bool) → eqb c 0x0D ≡ t → wholeOf ((not t, 3) ∷ []) L rest ≡ handing 0 m → StopSaid L rest (c ∷ cs) m
     go true k q = record { tail = cs; is = ap (λ (x : ℕ). x ∷ cs) (eqb-true c 0x0D k); whole = q }
@@ -269,7 +295,8 @@ stop-said L rest (c ∷ cs) m e = go (eqb c 0x0D) refl (decided-same (wholeOf ((
         absurd (omega arith)
 
 -- in either framing the whole frame's verdict was good
-ended-whole : (f : Framing) (after : List ℕ) (L : ℕ) (rest m : List ℕ) → ended f after L rest ≡ decided (handing 0 m) → wholeOf [] L rest ≡ handing 0 m
+ended-whole : (f : Framing) (after : List ℕ) (L : ℕ) (rest m : List ℕ) → ended f after L rest ≡ decided (handing 0 m)
+    → wholeOf [] L rest ≡ handing 0 m
 ended-whole Binary after L rest m e = decided-same (wholeOf [] L rest) (handing 0 m) e
 ended-whole Ascii after L rest m e = stop-said L rest (drop (2 * (L + 3)) after) m e .whole
 
@@ -278,10 +305,12 @@ record Stopped (f : Framing) (behind : List ℕ) : Type 0 where
   tail : List ℕ
   is : behind ≡ stopOf f ++ tail
 
-ended-stop : (f : Framing) (m behind rest : List ℕ) → ended f (coding f (bodyOf m) ++ behind) (length m) rest ≡ decided (handing 0 m) → Stopped f behind
+ended-stop : (f : Framing) (m behind rest : List ℕ)
+    → ended f (coding f (bodyOf m) ++ behind) (length m) rest ≡ decided (handing 0 m) → Stopped f behind
 ended-stop Binary m behind rest e = record { tail = behind; is = refl }
 ended-stop Ascii m behind rest e =
-    let said = stop-said (length m) rest behind m (ap (λ (l : List ℕ). atStop l (length m) rest) (sym (stop-place m behind)) ∙ e) in
+    let here = ap (λ (l : List ℕ). atStop l (length m) rest) (sym (stop-place m behind)) in
+    let said = stop-said (length m) rest behind m (here ∙ e) in
     record { tail = said .tail; is = said .is }
 
 -- what a good judgement says: the body was recovered, and any more, and then the end decided
@@ -321,7 +350,8 @@ pub record Begins (f : Framing) (after m : List ℕ) : Type 0 where
   pub is : after ≡ coding f (bodyOf m) ++ (stopOf f ++ tail)
 
 -- WHAT IS JUDGED GOOD BEGINS WITH ITS MESSAGE'S FRAME, where its bytes are coded again as they came
-pub good-begins : (f : Framing) (after m : List ℕ) → Again f (recovered f after .bytes) after → judgeAfter f after ≡ decided (handing 0 m) → Begins f after m
+pub good-begins : (f : Framing) (after m : List ℕ) → Again f (recovered f after .bytes) after
+    → judgeAfter f after ≡ decided (handing 0 m) → Begins f after m
 good-begins f after m a e =
     let said = good-said f after m e in
     let behind = coding f (said .more) ++ a .left in
@@ -330,7 +360,8 @@ good-begins f after m a e =
     ∙ ap (λ (l : List ℕ). coding f l ++ a .left) (said .bytes)
     ∙ ap (λ (l : List ℕ). l ++ a .left) (coding-append f (bodyOf m) (said .more))
     ∙ append-assoc (coding f (bodyOf m)) (coding f (said .more)) (a .left) in
-    let stop = ended-stop f m behind (said .rest) (ap (λ (l : List ℕ). ended f l (length m) (said .rest)) (sym split) ∙ said .end) in
+    let end = ap (λ (l : List ℕ). ended f l (length m) (said .rest)) (sym split) ∙ said .end in
+    let stop = ended-stop f m behind (said .rest) end in
     record {
       check = said .check;
       bytes = bytes-front (bodyOf m) (said .more) (subst Bytes (said .bytes) (a .bytes));
@@ -361,13 +392,16 @@ last-of b l escape-escaped = record { init = 0x7D ∷ []; last = 0x5D; is = refl
 last-of b l (as-it-is b′ e k) = record { init = []; last = b′; is = refl; silent = refl }
 
 -- a byte of a good frame is still missing
-held-few : (m rest : List ℕ) (end : ℕ → List ℕ → Judged) → checkOf m ≡ 0 → length rest < length m + 2 → frameJudged (length m ∷ rest) none end ≡ unfinished
+held-few : (m rest : List ℕ) (end : ℕ → List ℕ → Judged) → checkOf m ≡ 0 → length rest < length m + 2
+    → frameJudged (length m ∷ rest) none end ≡ unfinished
 held-few m rest end h k =
     let sized = passed m h .sized in
-    rw (le-leb 1 (length m) (sized .some), le-leb (length m) longest (sized .few), lt-ltb (length rest) (length m + 2) k)
+    rw
+    (le-leb 1 (length m) (sized .some), le-leb (length m) longest (sized .few), lt-ltb (length rest) (length m + 2) k)
 
 -- ASCII waits for the stop
-stop-decides : (m : List ℕ) → checkOf m ≡ 0 → Bytes (bodyOf m) → judge Ascii (startOf Ascii ∷ coding Ascii (bodyOf m)) ≡ unfinished
+stop-decides : (m : List ℕ) → checkOf m ≡ 0 → Bytes (bodyOf m)
+    → judge Ascii (startOf Ascii ∷ coding Ascii (bodyOf m)) ≡ unfinished
 stop-decides m h b =
     ap (judgeAfter Ascii) (sym (append-nil (coding Ascii (bodyOf m))))
     ∙ judge-body Ascii m [] h b
@@ -381,7 +415,8 @@ last-decides Binary m h b =
     let two = sumsOf (length m ∷ m) .two in
     let shorter = length m ∷ m ++ (one ∷ []) in
     let end = last-of two (stuffed two) (sent two) in
-    let regroup : bodyOf m ≡ shorter ++ (two ∷ []) = ap (λ (l : List ℕ). length m ∷ l) (sym (append-assoc m (one ∷ []) (two ∷ []))) in
+    let regroup : bodyOf m ≡ shorter ++ (two ∷ []) =
+    ap (λ (l : List ℕ). length m ∷ l) (sym (append-assoc m (one ∷ []) (two ∷ []))) in
     let front = coding Binary shorter ++ end .init in
     let bytes = recovers Binary shorter (end .init) (bytes-front shorter (two ∷ []) (subst Bytes regroup b)) in
     record {
@@ -393,7 +428,10 @@ last-decides Binary m h b =
           ∙ coding-append Binary shorter (two ∷ [])
           ∙ ap (λ (l : List ℕ). coding Binary shorter ++ l) (append-nil (stuffed two) ∙ end .is)
           ∙ sym (append-assoc (coding Binary shorter) (end .init) (end .last ∷ [])));
-      before = ap (λ (r : Recovered). frameJudged (r .bytes) (r .fault) (ended Binary front)) (bytes ∙ ap (alsoAll shorter) (end .silent))
+      before =
+          ap (λ (r : Recovered). frameJudged (r .bytes) (r .fault) (ended Binary front))
+          (bytes ∙ ap (alsoAll shorter) (end .silent))
           ∙ held-few m (m ++ (one ∷ []) ++ []) (ended Binary front) h (rw (append-nil, length-append) (omega arith));
     }
-last-decides Ascii m h b = record { front = coding Ascii (bodyOf m); last = 0x0D; is = refl; before = stop-decides m h b }
+last-decides Ascii m h b =
+    record { front = coding Ascii (bodyOf m); last = 0x0D; is = refl; before = stop-decides m h b }

@@ -5,6 +5,7 @@ pub mod Tables
 pub mod Messages
 pub mod Framings
 pub mod Judge
+pub mod Decided
 pub mod Stream
 pub mod Replies
 pub mod Table

@@ -19,6 +19,7 @@ use Rattle.standard.specs.Table.{tableBytes, heardZone, shortFaulted}
 use Rattle.standard.specs.Questions.{tableRefusal}
 use Rattle.standard.specs.Overview.{heardOne, faultedOne, zonesOf, groupNumbers, heardOf, faultedOf, shareNumber, counted, allSeen, seenOf, groupValues, overviewValues}
 use Rattle.standard.specs.Overview.{Counted, Seen}
+pub use Rattle.standard.specs.Overview.{Bounded, Alike}
 use Rattle.standard.proofs.Words.{length-upTo, map-append, map-same, map-map, total-le, total-mono}
 use Rattle.standard.proofs.Questions.{whole-asked}
 
@@ -40,11 +41,6 @@ pub faulted-zones : (t : List ℕ) (i : ℕ)
     → faultedOf t (suc i) ≡ total (map (λ j. min (heardZone t (16 * i + j)) (shortFaulted t (16 * i + j))) (upTo 16))
 unfolding faultedOf
 faulted-zones t i = over-zones (λ z. min (heardZone t z) (shortFaulted t z)) i
-
--- counts of zones, at most so many
-pub record Bounded (heard faulted most : ℕ) : Type 0 where
-  pub among : faulted ≤ heard
-  pub few : heard ≤ most
 
 -- the sums over sixteen, zones or groups, of which each has its bound
 bounded : (h f : ℕ → ℕ) (most : ℕ) → ((x : ℕ) → Bounded (h x) (f x) most) → (number : ℕ → ℕ)
@@ -87,11 +83,6 @@ same-below f g (suc n) h =
     map-append f (upTo n) (n ∷ [])
     ∙ ap₂ (λ l x. l ++ (x ∷ [])) (same-below f g n (λ x b. h x (omega arith))) (h n (omega arith))
     ∙ sym (map-append g (upTo n) (n ∷ []))
-
--- two tables that agree on which zones are heard and, of those, on which are faulted
-pub record Alike (t u : List ℕ) : Type 0 where
-  pub heard : (zone : ℕ) → zone < 256 → heardZone t zone ≡ heardZone u zone
-  pub faulted : (zone : ℕ) → zone < 256 → heardZone t zone ≡ 1 → shortFaulted t zone ≡ shortFaulted u zone
 
 -- the counts of group k, and their share
 abbrev countedOf : List ℕ → ℕ → Counted

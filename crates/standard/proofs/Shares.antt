@@ -21,6 +21,7 @@ use lib.Ieee.Scale.{round-same}
 use borrow.Author.Tests.{ne-eqb}
 use Rattle.standard.specs.Words.{total}
 use Rattle.standard.specs.Overview.{groupNumbers, heardOf, faultedOf, shareOf}
+pub use Rattle.standard.specs.Overview.{float-zero, float-one, Fair}
 use Rattle.standard.proofs.Seen.{Bounded, group-bounded, site-bounded}
 
 -- ---- "faulted divided by heard .. rounded once"
@@ -60,13 +61,6 @@ div-whole g a b ha hb h =
 
 -- ---- the fraction of any counts of at most 256 zones
 
--- 0 and 1 as floats, in either format
-abbrev pub float-zero : Float
-float-zero = fin false 0 (pos 0)
-
-abbrev pub float-one : Float
-float-one = fin false 1 (pos 0)
-
 -- 0 and 1 are held exactly
 zero-is : (g : Format) → round g false 0 1 ≡ float-zero
 unfolding round
@@ -88,14 +82,6 @@ below-one : (g : Format) → T (le float-one (round g false 255 256)) → ⊥
 unfolding round le
 below-one binary32 t = t
 below-one binary64 t = t
-
--- the share x of these counts: 0 exactly when none is faulted, 1 exactly when all heard are, else between them, and a number
-pub record Fair (heard faulted : ℕ) (x : Float) : Type 0 where
-  pub none-faulted : (x ≡ float-zero) ↔ (faulted ≡ 0)
-  pub all-faulted : (x ≡ float-one) ↔ (faulted ≡ heard)
-  pub low : T (le float-zero x)
-  pub high : T (le x float-one)
-  pub number : isNan x ≡ false
 
 module _ (g : Format) (h f : ℕ) (some-heard : 0 < h) (b : Bounded h f 256) where
   zero-iff : (round g false f h ≡ float-zero) ↔ (f ≡ 0)

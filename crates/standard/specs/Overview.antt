@@ -1,10 +1,14 @@
 -- Document 01, "The overview". Groups and zones have the paper's numbers here, from 1. Assumes nothing.
-use Prim.Native.Nat.{ℕ, zero, suc, _+_, _-_, _*_, min}
+use Prim.Native.Nat.{ℕ, zero, suc, _+_, _-_, _*_, _≤_, _<_, min}
+use mathlib.Core.Path.{_≡_}
 use mathlib.Core.Bool.{false, cond}
+use mathlib.Core.Logic.{_↔_}
 use mathlib.Core.Option.{Option, none, some}
 use mathlib.Core.List.{List, map}
+use lib.Dec.{T}
+use lib.IntN.{pos}
 use lib.ListN.{replicate}
-use lib.Ieee.{Float, binary64, round}
+use lib.Ieee.{Float, fin, binary64, round, le, isNan}
 use Rattle.standard.specs.declared.Share.{Share}
 use Rattle.standard.specs.declared.Share.the-variants.{NotHeard}
 use Rattle.standard.specs.declared.Share.the-variants.{Share as IsShare}
@@ -79,3 +83,30 @@ groupValues g = record { heard = g .heard; faulted = g .faulted; share = shareNu
 
 abbrev pub overviewValues : Overview → Seen
 overviewValues o = record { number = o .number; groups = map groupValues (o .groups); site = groupValues (o .site) }
+
+-- ---- what is said of counts and shares
+
+-- counts of zones, at most so many
+pub record Bounded (heard faulted most : ℕ) : Type 0 where
+  pub among : faulted ≤ heard
+  pub few : heard ≤ most
+
+-- two tables that agree on which zones are heard and, of those, on which are faulted
+pub record Alike (t u : List ℕ) : Type 0 where
+  pub heard : (zone : ℕ) → zone < 256 → heardZone t zone ≡ heardZone u zone
+  pub faulted : (zone : ℕ) → zone < 256 → heardZone t zone ≡ 1 → shortFaulted t zone ≡ shortFaulted u zone
+
+-- 0 and 1 as floats, in either format
+abbrev pub float-zero : Float
+float-zero = fin false 0 (pos 0)
+
+abbrev pub float-one : Float
+float-one = fin false 1 (pos 0)
+
+-- the share x of these counts: 0 exactly when none is faulted, 1 exactly when all heard are, else between them, and a number
+pub record Fair (heard faulted : ℕ) (x : Float) : Type 0 where
+  pub none-faulted : (x ≡ float-zero) ↔ (faulted ≡ 0)
+  pub all-faulted : (x ≡ float-one) ↔ (faulted ≡ heard)
+  pub low : T (le float-zero x)
+  pub high : T (le x float-one)
+  pub number : isNan x ≡ false

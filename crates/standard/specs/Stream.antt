@@ -1,5 +1,5 @@
 -- Demand 3: an uncut stream, split before every start byte, and what its parts hand out. Assumes nothing.
-use Prim.Native.Nat.{ℕ}
+use Prim.Native.Nat.{ℕ, suc, _+_}
 use mathlib.Core.Bool.{cond}
 use mathlib.Core.List.{List, [], _∷_, _++_}
 use lib.Dec.{eqb}
@@ -17,7 +17,7 @@ abbrev pub partsOf : ℕ → List ℕ → List (List ℕ)
 partsOf start [] = []
 partsOf start (b ∷ bs) = let later = partsOf start bs in cond (eqb b start) ((b ∷ upToStart start bs) ∷ later) later
 
--- "an unfinished part is cut short if another start follows, silent if none does"
+-- "an unfinished part being cut short if another start follows and silent if none does"
 abbrev pub partHands : Judged → List (List ℕ) → List Handed
 partHands (decided h) later = h ∷ []
 partHands unfinished [] = []
@@ -30,3 +30,20 @@ partsHand f (part ∷ later) = partHands (judge f part) later ++ partsHand f lat
 -- THE VERDICTS, messages and type bytes of an uncut stream
 abbrev pub handedOf : Framing → List ℕ → List Handed
 handedOf f stream = partsHand f (partsOf (startOf f) stream)
+
+-- ---- how many verdicts
+
+-- the start bytes of a stream
+abbrev pub startsOf : ℕ → List ℕ → ℕ
+startsOf x [] = 0
+startsOf x (b ∷ bs) = cond (eqb b x) (suc (startsOf x bs)) (startsOf x bs)
+
+-- 1 for a part still open at the end
+abbrev pub openOf : Judged → List (List ℕ) → ℕ
+openOf (decided h) later = 0
+openOf unfinished [] = 1
+openOf unfinished (part ∷ later) = 0
+
+abbrev pub lastOpen : Framing → List (List ℕ) → ℕ
+lastOpen f [] = 0
+lastOpen f (part ∷ later) = openOf (judge f part) later + lastOpen f later
