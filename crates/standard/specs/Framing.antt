@@ -9,6 +9,7 @@ use lib.ListN.{length}
 use Rattle.standard.specs.declared.Framing.{Framing}
 use Rattle.standard.specs.declared.Framing.the-variants.{Binary, Ascii}
 use Rattle.standard.specs.Sums.{sumsOf}
+use Rattle.standard.specs.Messages.{longestKnown}
 
 -- "Start 7Eh", "Start 0Ah"
 abbrev pub startOf : Framing → ℕ
@@ -48,6 +49,11 @@ bodyOf m = length m ∷ m ++ (sumsOf (length m ∷ m) .one ∷ sumsOf (length m 
 -- the frame of a message
 unfoldable pub frameOf : Framing → List ℕ → List ℕ
 frameOf f m = startOf f ∷ coding f (bodyOf m) ++ stopOf f
+
+-- "A written binary frame has at most 41 bytes, an ASCII frame at most 44", from the longest of the 41 messages
+abbrev pub mostOf : Framing → ℕ
+mostOf Binary = 2 * longestKnown + 5
+mostOf Ascii = 2 * longestKnown + 8
 
 -- ---- recovering
 

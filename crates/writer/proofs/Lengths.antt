@@ -11,11 +11,10 @@ use Rattle.standard.specs.declared.Framing.{Framing}
 use Rattle.standard.specs.declared.Framing.the-variants.{Binary, Ascii}
 use Rattle.standard.specs.Words.{byte}
 use Rattle.standard.specs.Messages.{longestKnown, known, lengthIn, numberOf, lengthFor, checkOf}
-use Rattle.standard.specs.Framing.{stopOf, coded, coding, frameOf}
+use Rattle.standard.specs.Framing.{stopOf, coded, coding, frameOf, mostOf}
 use Rattle.standard.proofs.Tables.{below}
 use Rattle.standard.proofs.Messages.{passed, length-number}
 use Rattle.standard.proofs.Framings.{coded-one-or-two, coding-few}
-use Rattle.writer.specs.Lengths.{mostOf}
 use Rattle.writer.proofs.Pieces.{one, two, coding-cons, pieces-length}
 
 -- a good message is one of the 41, none of which is longer than the longest of them

@@ -1,3 +1,2 @@
 pub mod Refusing
-pub mod Lengths
 pub mod RoundTrip
