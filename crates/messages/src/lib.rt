@@ -178,7 +178,7 @@ pub fn check(message: &[u8]) -> u8
     if message.len() == 0 {
         return 4;
     }
-    if 18 < message.len() {
+    if standard::LONGEST < message.len() {
         return 4;
     }
     let type_byte = message[0];

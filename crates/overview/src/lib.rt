@@ -4,27 +4,12 @@ use standard::Group;
 use standard::Overview;
 use standard::Share;
 ghost use mathlib.Core.Path.{_≡_};
-ghost use Prim.Native.Nat.{suc, _<_, min};
 ghost use mathlib.Core.Bool.{cond, _&&_};
+ghost use Prim.Native.Nat.{suc, _<_};
 ghost use lib.Dec.{ltb};
 ghost use lib.ListN.{length};
-ghost use Rattle.standard.specs.Words.{bit};
 ghost use Rattle.standard.specs.Table.{tableBytes, isTable};
 ghost use Rattle.standard.specs.Overview.{heardOf, faultedOf, shareOf, shareNumber, counted, seenOf, groupValues, overviewValues};
-
-// 1 where the zone of this mark is heard.
-fn heard_one(mark: u8) -> u16
-    ensures { λ r. ⌜ r ≡ bit 0 mark ⌝ }
-{
-    (mark % 2) as u16
-}
-
-// 1 where the zone is heard and its short flags say faulted.
-fn faulted_one(mark: u8, short: u8) -> u16
-    ensures { λ r. ⌜ r ≡ min (bit 0 mark) (bit 0 short) ⌝ }
-{
-    ((mark % 2) * (short % 2)) as u16
-}
 
 // f64 holds both counts exactly, so the division is what rounds, once.
 fn share_of(heard: u16, faulted: u16) -> Share
@@ -58,19 +43,21 @@ fn group_at(table: &[u8], index: u8) -> Group
     let mut faulted: u16 = 0;
     for j in 0..16 {
         let zone = 16 * index + j;
-        let mark = table::zone_mark(table, zone);
-        let short = table::zone_short(table, zone);
-        heard += heard_one(mark.value);
-        faulted += faulted_one(mark.value, short.value);
+        let answer = table::zone_heard(table, zone);
+        if answer.value == 1 {
+            let short = table::zone_short(table, zone);
+            heard += 1;
+            faulted += (short.value % 2) as u16;
+        }
     }
     with_share(heard, faulted)
 }
 
-// Group index + 1 by itself: nothing is heard in a table of another length, nor above group 16.
+// Group index + 1 by itself: nothing is heard where the table is refused, nor above group 16.
 pub fn group(table: &[u8], index: u8) -> Group
     ensures { λ r. ⌜ groupValues r ≡ cond (isTable (now (table .entry)) && ltb index 16) (counted (heardOf (now (table .entry)) (suc index)) (faultedOf (now (table .entry)) (suc index))) (counted 0 0) ⌝ }
 {
-    if table.len() != table::TABLE_BYTES {
+    if table::refusal(table) != 0 {
         return with_share(0, 0);
     }
     if 16 <= index {
@@ -79,7 +66,7 @@ pub fn group(table: &[u8], index: u8) -> Group
     group_at(table, index)
 }
 
-// All sixteen groups and the site, or the number with which the table refuses every question.
+// All sixteen groups and the site, or the number with which the table is refused.
 pub fn view(table: &[u8]) -> Overview
     ensures { λ r. ⌜ overviewValues r ≡ seenOf (now (table .entry)) ⌝ }
 {
@@ -89,10 +76,10 @@ pub fn view(table: &[u8]) -> Overview
         share: Share::NotHeard,
     };
     let mut groups = [none; 16];
-    let first = table::zone_mark(table, 0);
-    if first.number != 0 {
+    let number = table::refusal(table);
+    if number != 0 {
         return Overview {
-            number: first.number,
+            number: number,
             groups: groups,
             site: none,
         };

@@ -1,4 +1,5 @@
--- Two answers that meet the contract of `reply` are equal: a reply's number settles it. Assumes nothing.
+-- The promise of `reply` settles its answer: two that meet the predicate that its contract generates are equal.
+-- Assumes nothing.
 use mathlib.Core.Path.{_≡_, sym, _∙_}
 use borrow.Fn.Kinds.{Dens, endedOf, resT}
 use contract.Lifetimes.{Lfts}
@@ -9,4 +10,4 @@ use Rattle.replies.proofs.reply.Reads.{Post}
 
 pub reply-unique : (κs : Lfts 0) (a : Dens κs ps) (e : AtExit (endedOf 0 ps r) κs) (x y : resT r κs .Denot)
     → Post κs a x e → Post κs a y e → x ≡ y
-reply-unique κs a e x y p q = reply-one {a = x} {b = y} (p ∙ sym q)
+reply-unique κs a e x y p q = reply-one (p ∙ sym q)

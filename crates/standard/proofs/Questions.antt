@@ -86,6 +86,6 @@ answer-then f {none} {value} {refusal} a = record { says = a .says; gives = ap f
     go false = refl
 
 -- two answers to a question are the same
-pub answer-one : {A : Type 0} {none value : A} {refusal m n : ℕ} {x y : A}
+pub answer-settled : {A : Type 0} {none value : A} {refusal m n : ℕ} {x y : A}
     → Answered none refusal value m x → Answered none refusal value n y → (m ≡ n) × (x ≡ y)
-answer-one a b = (a .says ∙ sym (b .says), a .gives ∙ sym (b .gives))
+answer-settled a b = (a .says ∙ sym (b .says), a .gives ∙ sym (b .gives))

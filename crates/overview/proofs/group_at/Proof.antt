@@ -1,10 +1,10 @@
--- `group_at` meets its contract. After j turns the counts are those of the group's first j zones, at most j each; the table has its length,
--- so each answer about a zone is the byte itself. Assumes nothing.
-use borrow.Author.Needs.{needs}
+-- `group_at` meets its contract. After j turns the counts are those of the group's first j zones, at most j each. Assumes nothing.
 use Prim.Native.Nat.{ℕ, _+_, _-_, _*_, _≤_, min}
 use native.Mathlib.Omega.{arith}
 use mathlib.Core.Path.{_≡_, refl, sym, ap, ap₂, _∙_}
 use mathlib.Core.List.{List, map}
+use mathlib.Core.Logic.{⊎-elim}
+use borrow.Author.Needs.{needs}
 use Rattle.standard.specs.Words.{bit, upTo, total}
 use Rattle.standard.specs.Table.{heardZone, shortFaulted}
 use Rattle.standard.specs.Overview.{counted}
@@ -22,8 +22,7 @@ abbrev faultedIn : List ℕ → ℕ → ℕ → ℕ
 faultedIn t index j = min (heardZone t (16 * index + j)) (shortFaulted t (16 * index + j))
 
 abbrev Inv-loop : tie.InvT-loop
-Inv-loop table index heard₀ faulted₀ j₀ heard faulted j =
-    (heard ≡ total (map (heardIn table index) (upTo j)))
+Inv-loop table index heard₀ faulted₀ j₀ heard faulted j = (heard ≡ total (map (heardIn table index) (upTo j)))
     × (faulted ≡ total (map (faultedIn table index) (upTo j)))
     × (heard ≤ j)
     × (faulted ≤ j)
@@ -42,20 +41,17 @@ mul-zone c = omega arith
 add-zone : tie.Need-add-zone Inv-loop μ-loop
 add-zone c = omega arith
 
-zone-mark-requires : tie.Need-zone-mark-requires Inv-loop μ-loop
-zone-mark-requires c κs = search needs
+zone-heard-requires : tie.Need-zone-heard-requires Inv-loop μ-loop
+zone-heard-requires c κs = search needs
 
 zone-short-requires : tie.Need-zone-short-requires Inv-loop μ-loop
 zone-short-requires c κs = search needs
 
-heard-one-requires : tie.Need-heard-one-requires Inv-loop μ-loop
-heard-one-requires c κs = search needs
-
 add-heard : tie.Need-add-heard Inv-loop μ-loop
 add-heard c = omega arith
 
-faulted-one-requires : tie.Need-faulted-one-requires Inv-loop μ-loop
-faulted-one-requires c κs = search needs
+cast-faulted : tie.Need-cast-faulted Inv-loop μ-loop
+cast-faulted c = omega arith
 
 add-faulted : tie.Need-add-faulted Inv-loop μ-loop
 add-faulted c = omega arith
@@ -66,16 +62,43 @@ add-j c = omega arith
 loop-less : tie.Need-loop-less Inv-loop μ-loop
 loop-less c = omega arith
 
+-- the table and the group, from the end of a turn
+abbrev tableAt : tie.Joined1 Inv-loop μ-loop → List ℕ
+tableAt c = c .before .before .before .before .before .before .args .table .now
+
+abbrev indexAt : tie.Joined1 Inv-loop μ-loop → ℕ
+indexAt c = c .before .before .before .before .before .before .args .index
+
+-- what a turn adds
+record Turn (c : tie.Joined1 Inv-loop μ-loop) : Type 0 where
+  heard : c .if1 .heard ≡ c .before .before .before .before .loop .heard + heardIn (tableAt c) (indexAt c) (c .before .before .before .before .loop .j)
+  faulted : c .if1 .faulted ≡ c .before .before .before .before .loop .faulted + faultedIn (tableAt c) (indexAt c) (c .before .before .before .before .loop .j)
+
+counts : (c : tie.Joined1 Inv-loop μ-loop) → Turn c
+counts c =
+    let whole = whole-asked (tableAt c) (c .before .before .before .before .before .before .pre .0) in
+    let is = answer-value (c .before .before .zone-heard .ensures) whole in
+    ⊎-elim
+    (λ w.
+    let short = answer-value (w .1 .ensures) whole in
+    let one = w .0 .taken in
+    let h = w .3 in
+    let f = w .4 in
+    record { heard = omega arith; faulted = omega arith })
+    (λ w.
+    let none = w .0 .left in
+    let h = w .1 in
+    let f = w .2 in
+    record { heard = omega (arith, none); faulted = omega (arith, none) })
+    (c .if1 .came)
+
 loop-again : tie.Need-loop-again Inv-loop μ-loop
-loop-again c =
-    let at = c .before .before .before .before .before in
-    let whole = whole-asked _ (at .before .before .pre .0) in
-    let mark = answer-value (c .before .before .before .zone-mark .ensures) whole in
-    let short = answer-value (c .before .before .zone-short .ensures) whole in (
-      rw total-more (ap₂ _+_ (at .loop .inv .0) (c .before .heard-one .ensures ∙ ap (bit 0) mark)),
-      rw total-more (ap₂ _+_ (at .loop .inv .1) (c .faulted-one .ensures ∙ ap₂ (λ m s. min (bit 0 m) (bit 0 s)) mark short)),
-      omega arith,
-      omega arith,
+loop-again c = let turn = counts c in
+    let at = c .before .before .before .before in (
+      rw total-more (turn .heard ∙ ap (λ (n : ℕ). n + heardIn (tableAt c) (indexAt c) (at .loop .j)) (at .loop .inv .0)),
+      rw total-more (turn .faulted ∙ ap (λ (n : ℕ). n + faultedIn (tableAt c) (indexAt c) (at .loop .j)) (at .loop .inv .1)),
+      let h = turn .heard in omega arith,
+      let f = turn .faulted in omega arith,
       omega arith,
     )
 
@@ -83,8 +106,7 @@ with-share-requires : tie.Need-with-share-requires Inv-loop μ-loop
 with-share-requires c κs = search needs
 
 returns : tie.Need-returns Inv-loop μ-loop
-returns c =
-    let at = c .before .before in
+returns c = let at = c .before .before in
     let e : at .loop .j ≡ 16 = omega arith in
     let inv = rw e at (at .loop .inv) in
     c .with-share .ensures ∙ ap₂ counted (inv .0 ∙ sym (heard-zones _ _)) (inv .1 ∙ sym (faulted-zones _ _))
@@ -98,11 +120,10 @@ group-at-spec =
     loop-holds
     mul-zone
     add-zone
-    zone-mark-requires
+    zone-heard-requires
     zone-short-requires
-    heard-one-requires
     add-heard
-    faulted-one-requires
+    cast-faulted
     add-faulted
     add-j
     loop-less

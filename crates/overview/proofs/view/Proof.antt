@@ -29,7 +29,7 @@ abbrev countedAt : List ℕ → ℕ → Counted
 countedAt t i = counted (heardAt t i) (faultedAt t i)
 
 abbrev Inv-loop : tie.InvT-loop
-Inv-loop table groups₀ heard₀ faulted₀ index₀ groups heard faulted index =
+Inv-loop table groups₀ number heard₀ faulted₀ index₀ groups heard faulted index =
     (map groupValues (take index groups) ≡ map (countedAt table) (upTo index))
     × (heard ≡ total (map (heardAt table) (upTo index)))
     × (faulted ≡ total (map (faultedAt table) (upTo index)))
@@ -39,27 +39,27 @@ Inv-loop table groups₀ heard₀ faulted₀ index₀ groups heard faulted index
     × (length groups ≡ 16)
 
 abbrev μ-loop : tie.MeasureT-loop
-μ-loop table groups₀ heard₀ faulted₀ index₀ groups heard faulted index = 16 - index
+μ-loop table groups₀ number heard₀ faulted₀ index₀ groups heard faulted index = 16 - index
 
 -- past the test the table has its length
-entire : (c : tie.Else1 Inv-loop μ-loop) → length (c .before .before .before .before .args .table .now) ≡ tableBytes
-entire c = asked-whole _ (sym (c .before .before .zone-mark .ensures .says) ∙ c .if1 .left)
+entire : (c : tie.Else1 Inv-loop μ-loop) → length (c .before .before .before .args .table .now) ≡ tableBytes
+entire c = asked-whole _ (sym (c .before .refusal .ensures) ∙ c .if1 .left)
 
 -- a group's counts fit, so their sums do
 small : (c : tie.After-group-at Inv-loop μ-loop) → Bounded (c .group-at .result .heard) (c .group-at .result .faulted) 16
 small c =
     let at = c .before .before in
-    let b = group-bounded (at .before .before .before .before .before .args .table .now) (suc (at .loop .index)) in
+    let b = group-bounded (at .before .before .before .before .args .table .now) (suc (at .loop .index)) in
     let h = ap (λ (g : Counted). g .heard) (c .group-at .ensures) in
     let f = ap (λ (g : Counted). g .faulted) (c .group-at .ensures) in
     record { among = omega arith; few = omega arith }
 
-zone-mark-requires : tie.Need-zone-mark-requires Inv-loop μ-loop
-zone-mark-requires c κs = search needs
+refusal-requires : tie.Need-refusal-requires Inv-loop μ-loop
+refusal-requires c κs = search needs
 
 returns : tie.Need-returns Inv-loop μ-loop
 returns c =
-    let says = c .before .before .zone-mark .ensures .says in
+    let says = c .before .refusal .ensures in
     ap (λ n. record { number = n; groups = replicate 16 (counted 0 0); site = counted 0 0 }) says
     ∙ sym (seen-refused _ (λ e. c .if1 .taken (says ∙ e)))
 
@@ -99,7 +99,7 @@ stored l i g h = rw (add-one, take-suc-set) (map-append groupValues (take i l) (
 loop-again : tie.Need-loop-again Inv-loop μ-loop
 loop-again c =
     let at = c .before .before .before .before in
-    let t = at .before .before .before .before .before .args .table .now in
+    let t = at .before .before .before .before .args .table .now in
     let g = c .before .before .group-at .ensures in
     let b = small (c .before .before) in (
       stored (at .loop .groups) (at .loop .index) (c .before .before .group-at .result) (omega arith)
@@ -122,7 +122,7 @@ returns-2 c =
     let e : at .loop .index ≡ 16 = omega arith in
     let inv = rw e at (at .loop .inv) in
     let groups = rw (take-all 16 (at .loop .groups) (omega arith)) at (inv .0) in
-    simp (seen-whole (at .before .before .before .before .before .args .table .now) (entire (at .before)), map-map)
+    simp (seen-whole (at .before .before .before .before .args .table .now) (entire (at .before)), map-map)
     (λ i. record { number = 0; groups = groups i; site = (c .with-share .ensures ∙ ap₂ counted (inv .1) (inv .2)) i })
 
 pub view-spec : {M : Type 1} → statement M
@@ -131,7 +131,7 @@ view-spec =
     (tie.spec
     Inv-loop
     μ-loop
-    zone-mark-requires
+    refusal-requires
     returns
     loop-holds
     group-at-requires
