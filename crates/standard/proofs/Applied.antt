@@ -1,4 +1,5 @@
--- Laws of applying a message: its refusals, what each message leaves at each place, and that marks are never cleared. Assumes nothing.
+-- Laws of applying a message: its refusals, what each message leaves at each place, and that marks are never cleared.
+-- Assumes nothing.
 use Prim.Native.Nat.{ℕ, suc, _+_, _/_, _≤_, _<_}
 use native.Mathlib.Nat.{le-refl}
 use native.Mathlib.Omega.{arith}
@@ -13,13 +14,15 @@ use borrow.Author.Tests.{eq-eqb, ne-eqb, eqb-true, eqb-false}
 use Rattle.standard.specs.Words.{byte, bit, upTo, firstOf}
 use Rattle.standard.specs.Messages.{numberOf, messageTests, checkOf}
 use Rattle.standard.specs.Table.{tableBytes, zonePlace, partitionPlace, systemPlace, zoneMark, zoneShort}
-use Rattle.standard.specs.Table.{shortFrom, fourBits, zoneWrites, shortWrites, partitionWrites, partitionShort, systemWrites, writesOf}
+use Rattle.standard.specs.Table.{shortFrom, fourBits, zoneWrites, shortWrites, partitionWrites, partitionShort}
+use Rattle.standard.specs.Table.{systemWrites, writesOf}
 use Rattle.standard.specs.Table.{Write, doneAll, applyRefusal, appliedTo, Applied}
 use Rattle.standard.specs.Questions.{tableRefusal}
 use Rattle.standard.proofs.Messages.{passed, check-after, passed-offset, passed-partition, passed-number}
 use Rattle.standard.proofs.Questions.{asked-whole, whole-asked}
 use Rattle.standard.proofs.Table.{doneAll-length, doneAll-twice, doneAll-at, doneAll-elsewhere}
-use Rattle.standard.proofs.Table.{leftAt, leftAt-run, leftAt-set, record-mark, record-byte, record-elsewhere, heard-mark, heard-short}
+use Rattle.standard.proofs.Table.{leftAt, leftAt-run, leftAt-set, record-mark, record-byte, record-elsewhere}
+use Rattle.standard.proofs.Table.{heard-mark, heard-short}
 use Rattle.standard.proofs.Table.{Every, Elsewhere, NotStored, every-run, every-turn}
 
 -- ---- refused, or taken
@@ -30,7 +33,8 @@ unfolding applyRefusal tableRefusal
 refusal-after t m = check-after (not (eqb (length t) tableBytes)) 11 m ∙ go (eqb (length t) tableBytes)
   where
     go : (whole : Bool)
-        → cond (not whole) 11 (checkOf m) ≡ cond (eqb (firstOf ((not whole, 11) ∷ [])) 0) (checkOf m) (firstOf ((not whole, 11) ∷ []))
+        → cond (not whole) 11 (checkOf m)
+        ≡ cond (eqb (firstOf ((not whole, 11) ∷ [])) 0) (checkOf m) (firstOf ((not whole, 11) ∷ []))
     go true = refl
     go false = refl
 
@@ -53,7 +57,8 @@ taken-says {n} {t} {m} k = refusal-after t m ∙ rw (eq-eqb (tableRefusal t) 0 (
 pub taken-by : (t m : List ℕ) → applyRefusal t m ≡ 0 → Taken (numberOf (byte 1 m)) t m
 taken-by t m h = go (eqb (tableRefusal t) 0) refl (sym (refusal-after t m) ∙ h)
   where
-    go : (ok : Bool) → eqb (tableRefusal t) 0 ≡ ok → cond ok (checkOf m) (tableRefusal t) ≡ 0 → Taken (numberOf (byte 1 m)) t m
+    go : (ok : Bool) → eqb (tableRefusal t) 0 ≡ ok → cond ok (checkOf m) (tableRefusal t) ≡ 0
+        → Taken (numberOf (byte 1 m)) t m
     go true e z = record { number = refl; whole = asked-whole t (eqb-true (tableRefusal t) 0 e); good = z }
     go false e z = absurd (eqb-false (tableRefusal t) 0 e z)
 
@@ -64,7 +69,8 @@ refused-leaves t m h = rw (ne-eqb (applyRefusal t m) 0 h)
 
 pub taken-leaves : {n : ℕ} {t m : List ℕ} → Taken n t m → appliedTo t m ≡ doneAll (writesOf n m) t
 unfolding appliedTo
-taken-leaves {n} {t} {m} k = rw (eq-eqb (applyRefusal t m) 0 (taken-says k)) (ap (λ a. doneAll (writesOf a m) t) (k .number))
+taken-leaves {n} {t} {m} k =
+    rw (eq-eqb (applyRefusal t m) 0 (taken-says k)) (ap (λ a. doneAll (writesOf a m) t) (k .number))
 
 -- what `apply` promises in each case
 pub refused-applied : (t m : List ℕ) {number : ℕ} → number ≡ applyRefusal t m → (number ≡ 0 → ⊥) → Applied t m number t
@@ -87,7 +93,8 @@ applied-has P {n} t m e p q = go (eqb (applyRefusal t m) 0)
 
 -- every message keeps the length
 pub applied-length : (t m : List ℕ) → length (appliedTo t m) ≡ length t
-applied-length t m = applied-has (λ l. length l ≡ length t) t m refl refl (doneAll-length (writesOf (numberOf (byte 1 m)) m) t)
+applied-length t m =
+    applied-has (λ l. length l ≡ length t) t m refl refl (doneAll-length (writesOf (numberOf (byte 1 m)) m) t)
 
 -- so the table is refused afterwards where it was refused before
 pub applied-refusal : (t m : List ℕ) → tableRefusal (appliedTo t m) ≡ tableRefusal t
@@ -98,13 +105,15 @@ applied-refusal t m = ap (λ n. firstOf ((not (eqb n tableBytes), 11) ∷ [])) (
 pub applied-twice : (t m : List ℕ) → appliedTo (appliedTo t m) m ≡ appliedTo t m
 unfolding appliedTo
 applied-twice t m =
-    ap (λ n. cond (eqb n 0) (doneAll ws (appliedTo t m)) (appliedTo t m)) (refusal-same (appliedTo t m) t m (applied-length t m))
+    ap (λ n. cond (eqb n 0) (doneAll ws (appliedTo t m)) (appliedTo t m))
+    (refusal-same (appliedTo t m) t m (applied-length t m))
     ∙ go (eqb (applyRefusal t m) 0)
   where
     ws : List Write
     ws = writesOf (numberOf (byte 1 m)) m
 
-    go : (ok : Bool) → cond ok (doneAll ws (cond ok (doneAll ws t) t)) (cond ok (doneAll ws t) t) ≡ cond ok (doneAll ws t) t
+    go : (ok : Bool)
+        → cond ok (doneAll ws (cond ok (doneAll ws t) t)) (cond ok (doneAll ws t) t) ≡ cond ok (doneAll ws t) t
     go true = doneAll-twice ws t
     go false = refl
 
@@ -128,11 +137,13 @@ writes-are P n m a b c d e f = case 0x04 a (case 0x05 b (case 0x06 c (case 0x07 
     case k p q = go (eqb n k) k refl p q
 
 -- no other number writes
-pub none-written : (n : ℕ) (m t : List ℕ) → (n ≡ 0x04 → ⊥) → (n ≡ 0x05 → ⊥) → (n ≡ 0x06 → ⊥) → (n ≡ 0x07 → ⊥) → (n ≡ 0x08 → ⊥)
+pub none-written : (n : ℕ) (m t : List ℕ) → (n ≡ 0x04 → ⊥) → (n ≡ 0x05 → ⊥) → (n ≡ 0x06 → ⊥) → (n ≡ 0x07 → ⊥)
+    → (n ≡ 0x08 → ⊥)
     → doneAll (writesOf n m) t ≡ t
 unfolding doneAll
 none-written n m t a b c d e =
-    writes-are (λ ws. doneAll ws t ≡ t) n m (λ h. absurd (a h)) (λ h. absurd (b h)) (λ h. absurd (c h)) (λ h. absurd (d h))
+    writes-are (λ ws. doneAll ws t ≡ t) n m (λ h. absurd (a h)) (λ h. absurd (b h)) (λ h. absurd (c h))
+    (λ h. absurd (d h))
     (λ h. absurd (e h)) refl
 
 -- ---- what each message leaves
@@ -143,11 +154,13 @@ zoneRun m = byte 3 m ∷ byte 4 m ∷ byte 5 m ∷ byte 6 m ∷ byte 7 m ∷ byt
 
 module _ (t m : List ℕ) where
   -- a place that no write of number n names stays, refused or not
-  stays : {n : ℕ} (i : ℕ) → numberOf (byte 1 m) ≡ n → Every (Elsewhere i) (writesOf n m) → getD (appliedTo t m) i 0 ≡ getD t i 0
+  stays : {n : ℕ} (i : ℕ) → numberOf (byte 1 m) ≡ n → Every (Elsewhere i) (writesOf n m)
+      → getD (appliedTo t m) i 0 ≡ getD t i 0
   stays {n} i e h = applied-has (λ l. getD l i 0 ≡ getD t i 0) t m e refl (doneAll-elsewhere (writesOf n m) t i h)
 
   -- the byte that a message which is taken leaves at a place
-  left : {n : ℕ} (i : ℕ) → Taken n t m → i < tableBytes → getD (appliedTo t m) i 0 ≡ leftAt i (writesOf n m) (getD t i 0)
+  left : {n : ℕ} (i : ℕ) → Taken n t m → i < tableBytes
+      → getD (appliedTo t m) i 0 ≡ leftAt i (writesOf n m) (getD t i 0)
   left {n} i k h = ap (λ l. getD l i 0) (taken-leaves k) ∙ doneAll-at (writesOf n m) t i (rw (k .whole) h)
 
   -- "All other messages leave the table's bytes alike"
@@ -158,9 +171,12 @@ module _ (t m : List ℕ) where
       (λ e. h (omega arith) (omega arith)) (λ e. h (omega arith) (omega arith)) (λ e. h (omega arith) (omega arith)))
 
   -- "04h stores its bytes 3-8, sets mark bits 0 and 1, and sets the short flags", for a zone that is a byte
-  pub zone-mark : Taken 0x04 t m → byte 2 m < 256 → zoneMark (appliedTo t m) (byte 2 m) ≡ bitOr (zoneMark t (byte 2 m)) 3
+  pub zone-mark : Taken 0x04 t m → byte 2 m < 256
+      → zoneMark (appliedTo t m) (byte 2 m) ≡ bitOr (zoneMark t (byte 2 m)) 3
   unfolding writesOf
-  zone-mark k h = left (zonePlace (byte 2 m)) k (omega arith) ∙ record-mark (zonePlace (byte 2 m)) 3 (zoneRun m) (zoneMark t (byte 2 m))
+  zone-mark k h =
+      left (zonePlace (byte 2 m)) k (omega arith)
+      ∙ record-mark (zonePlace (byte 2 m)) 3 (zoneRun m) (zoneMark t (byte 2 m))
 
   -- its other seven bytes
   pub zone-run : (j : ℕ) → Taken 0x04 t m → byte 2 m < 256 → j < 7
@@ -171,7 +187,8 @@ module _ (t m : List ℕ) where
       ∙ record-byte (zonePlace (byte 2 m)) 3 (zoneRun m) j (getD t (zonePlace (byte 2 m) + 1 + j) 0) l
 
   -- "faulted from condition 1 bit 0; bypass from bit 3 or 4; .."
-  pub zone-short : Taken 0x04 t m → byte 2 m < 256 → zoneShort (appliedTo t m) (byte 2 m) ≡ shortFrom (byte 7 m) (byte 8 m)
+  pub zone-short : Taken 0x04 t m → byte 2 m < 256
+      → zoneShort (appliedTo t m) (byte 2 m) ≡ shortFrom (byte 7 m) (byte 8 m)
   zone-short k h = ap (λ i. getD (appliedTo t m) i 0) (omega arith) ∙ zone-run 6 k h (omega arith)
 
   -- "all other records" stay
@@ -181,21 +198,25 @@ module _ (t m : List ℕ) where
   zone-keeps i e h = stays i e (record-elsewhere (zonePlace (byte 2 m)) 3 (zoneRun m) i (λ k l. h k (omega arith)))
 
   -- "05h sets short flags .. and mark bit 0 of its 16 zones, nothing else of them"
-  pub zones-mark : (j : ℕ) → Taken 0x05 t m → j < 16 → zoneMark (appliedTo t m) (byte 2 m + j) ≡ bitOr (zoneMark t (byte 2 m + j)) 1
+  pub zones-mark : (j : ℕ) → Taken 0x05 t m → j < 16
+      → zoneMark (appliedTo t m) (byte 2 m + j) ≡ bitOr (zoneMark t (byte 2 m + j)) 1
   unfolding writesOf
   zones-mark j k l =
       let h = passed-offset m (passed m (k .good)) (k .number) in
       left (zonePlace (byte 2 m + j)) k (omega arith)
-      ∙ heard-mark (λ i. zonePlace (byte 2 m + i)) 7 (λ i. fourBits i (byte (3 + i / 2) m)) (λ a b e. omega arith) (λ a b e. omega arith)
+      ∙ heard-mark (λ i. zonePlace (byte 2 m + i)) 7 (λ i. fourBits i (byte (3 + i / 2) m)) (λ a b e. omega arith)
+      (λ a b e. omega arith)
       16 j (zoneMark t (byte 2 m + j)) l
 
   -- the short flags, four bits each
-  pub zones-short : (j : ℕ) → Taken 0x05 t m → j < 16 → zoneShort (appliedTo t m) (byte 2 m + j) ≡ fourBits j (byte (3 + j / 2) m)
+  pub zones-short : (j : ℕ) → Taken 0x05 t m → j < 16
+      → zoneShort (appliedTo t m) (byte 2 m + j) ≡ fourBits j (byte (3 + j / 2) m)
   unfolding writesOf
   zones-short j k l =
       let h = passed-offset m (passed m (k .good)) (k .number) in
       left (zonePlace (byte 2 m + j) + 7) k (omega arith)
-      ∙ heard-short (λ i. zonePlace (byte 2 m + i)) 7 (λ i. fourBits i (byte (3 + i / 2) m)) (λ a b e. omega arith) (λ a b e. omega arith)
+      ∙ heard-short (λ i. zonePlace (byte 2 m + i)) 7 (λ i. fourBits i (byte (3 + i / 2) m)) (λ a b e. omega arith)
+      (λ a b e. omega arith)
       16 j (zoneShort t (byte 2 m + j)) l
 
   -- every other place stays
@@ -203,15 +224,18 @@ module _ (t m : List ℕ) where
       → ((j : ℕ) → j < 16 → (i ≡ zonePlace (byte 2 m + j) → ⊥) × (i ≡ zonePlace (byte 2 m + j) + 7 → ⊥))
       → getD (appliedTo t m) i 0 ≡ getD t i 0
   unfolding writesOf
-  zones-keep i e h = stays i e (every-turn (Elsewhere i) (shortWrites m) 16 (λ j l. let p = h j l in (p .0, (p .1, tt))))
+  zones-keep i e h =
+      stays i e (every-turn (Elsewhere i) (shortWrites m) 16 (λ j l. let p = h j l in (p .0, (p .1, tt))))
 
   -- so the mask, type and condition bytes of every zone stay
   pub zones-keep-conditions : (zone k : ℕ) → numberOf (byte 1 m) ≡ 0x05 → 1 ≤ k → k ≤ 6
       → getD (appliedTo t m) (zonePlace zone + k) 0 ≡ getD t (zonePlace zone + k) 0
-  zones-keep-conditions zone k e lo hi = zones-keep (zonePlace zone + k) e (λ j l. ((λ p. omega arith), (λ p. omega arith)))
+  zones-keep-conditions zone k e lo hi =
+      zones-keep (zonePlace zone + k) e (λ j l. ((λ p. omega arith), (λ p. omega arith)))
 
   -- "06h stores and sets mark bit 1; the short byte stays"
-  pub partition-mark : Taken 0x06 t m → getD (appliedTo t m) (partitionPlace (byte 2 m)) 0 ≡ bitOr (getD t (partitionPlace (byte 2 m)) 0) 2
+  pub partition-mark : Taken 0x06 t m
+      → getD (appliedTo t m) (partitionPlace (byte 2 m)) 0 ≡ bitOr (getD t (partitionPlace (byte 2 m)) 0) 2
   unfolding writesOf
   partition-mark k =
       let h = passed-partition m (passed m (k .good)) (k .number) in
@@ -219,7 +243,8 @@ module _ (t m : List ℕ) where
       ∙ record-mark (partitionPlace (byte 2 m)) 2 (take 7 (drop 2 m)) (getD t (partitionPlace (byte 2 m)) 0)
 
   -- its seven bytes
-  pub partition-run : (j : ℕ) → Taken 0x06 t m → j < 7 → getD (appliedTo t m) (partitionPlace (byte 2 m) + 1 + j) 0 ≡ byte (3 + j) m
+  pub partition-run : (j : ℕ) → Taken 0x06 t m → j < 7
+      → getD (appliedTo t m) (partitionPlace (byte 2 m) + 1 + j) 0 ≡ byte (3 + j) m
   unfolding writesOf
   partition-run j k l =
       let h = passed-partition m (passed m (k .good)) (k .number) in
@@ -236,7 +261,9 @@ module _ (t m : List ℕ) where
       → getD (appliedTo t m) i 0 ≡ getD t i 0
   unfolding writesOf
   partition-keeps i e h =
-      stays i e (record-elsewhere (partitionPlace (byte 2 m)) 2 (take 7 (drop 2 m)) i (λ k l. h k (omega (arith, simp length-take at l))))
+      stays i e
+      (record-elsewhere (partitionPlace (byte 2 m)) 2 (take 7 (drop 2 m)) i
+      (λ k l. h k (omega (arith, simp length-take at l))))
 
   -- so every short byte
   pub partition-keeps-short : (partition : ℕ) → numberOf (byte 1 m) ≡ 0x06
@@ -244,29 +271,37 @@ module _ (t m : List ℕ) where
   partition-keeps-short partition e = partition-keeps (partitionPlace partition + 8) e (λ k l p. omega arith)
 
   -- "07h sets all eight short bytes and mark bit 0 of each"
-  pub partitions-mark : (p : ℕ) → Taken 0x07 t m → p < 8 → getD (appliedTo t m) (partitionPlace p) 0 ≡ bitOr (getD t (partitionPlace p) 0) 1
+  pub partitions-mark : (p : ℕ) → Taken 0x07 t m → p < 8
+      → getD (appliedTo t m) (partitionPlace p) 0 ≡ bitOr (getD t (partitionPlace p) 0) 1
   unfolding writesOf
   partitions-mark p k l =
       left (partitionPlace p) k (omega arith)
-      ∙ heard-mark partitionPlace 8 (λ q. byte (2 + q) m) (λ i j e. omega arith) (λ i j e. omega arith) 8 p (getD t (partitionPlace p) 0) l
+      ∙ heard-mark partitionPlace 8 (λ q. byte (2 + q) m) (λ i j e. omega arith) (λ i j e. omega arith) 8 p
+      (getD t (partitionPlace p) 0) l
 
   -- the short bytes
-  pub partitions-short : (p : ℕ) → Taken 0x07 t m → p < 8 → getD (appliedTo t m) (partitionPlace p + 8) 0 ≡ byte (2 + p) m
+  pub partitions-short : (p : ℕ) → Taken 0x07 t m → p < 8
+      → getD (appliedTo t m) (partitionPlace p + 8) 0 ≡ byte (2 + p) m
   unfolding writesOf
   partitions-short p k l =
       left (partitionPlace p + 8) k (omega arith)
-      ∙ heard-short partitionPlace 8 (λ q. byte (2 + q) m) (λ i j e. omega arith) (λ i j e. omega arith) 8 p (getD t (partitionPlace p + 8) 0) l
+      ∙ heard-short partitionPlace 8 (λ q. byte (2 + q) m) (λ i j e. omega arith) (λ i j e. omega arith) 8 p
+      (getD t (partitionPlace p + 8) 0) l
 
   -- every other place stays
   pub partitions-keep : (i : ℕ) → numberOf (byte 1 m) ≡ 0x07
-      → ((p : ℕ) → p < 8 → (i ≡ partitionPlace p → ⊥) × (i ≡ partitionPlace p + 8 → ⊥)) → getD (appliedTo t m) i 0 ≡ getD t i 0
+      → ((p : ℕ) → p < 8 → (i ≡ partitionPlace p → ⊥) × (i ≡ partitionPlace p + 8 → ⊥)) → getD (appliedTo t m) i 0
+      ≡ getD t i 0
   unfolding writesOf
-  partitions-keep i e h = stays i e (every-turn (Elsewhere i) (partitionShort m) 8 (λ j l. let p = h j l in (p .0, (p .1, tt))))
+  partitions-keep i e h =
+      stays i e (every-turn (Elsewhere i) (partitionShort m) 8 (λ j l. let p = h j l in (p .0, (p .1, tt))))
 
   -- "08h stores and sets its mark to 1"
   pub system-mark : Taken 0x08 t m → getD (appliedTo t m) systemPlace 0 ≡ 1
   unfolding writesOf
-  system-mark k = left systemPlace k (omega arith) ∙ leftAt-run systemPlace 0 (1 ∷ take 11 (drop 1 m)) (getD t systemPlace 0) (omega arith)
+  system-mark k =
+      left systemPlace k (omega arith)
+      ∙ leftAt-run systemPlace 0 (1 ∷ take 11 (drop 1 m)) (getD t systemPlace 0) (omega arith)
 
   -- its eleven bytes
   pub system-run : (j : ℕ) → Taken 0x08 t m → j < 11 → getD (appliedTo t m) (systemPlace + suc j) 0 ≡ byte (2 + j) m
@@ -274,7 +309,8 @@ module _ (t m : List ℕ) where
   system-run j k l =
       let n = passed-number m 0x08 (passed m (k .good)) (k .number) in
       left (systemPlace + suc j) k (omega arith)
-      ∙ leftAt-run systemPlace (suc j) (1 ∷ take 11 (drop 1 m)) (getD t (systemPlace + suc j) 0) (simp (length-take, length-drop) (omega arith))
+      ∙ leftAt-run systemPlace (suc j) (1 ∷ take 11 (drop 1 m)) (getD t (systemPlace + suc j) 0)
+      (simp (length-take, length-drop) (omega arith))
       ∙ getD-take 11 (drop 1 m) j 0 l
       ∙ getD-drop 1 m j 0
       ∙ ap (λ i. getD m i 0) (omega arith)
@@ -294,10 +330,12 @@ pub record Unstored (i : ℕ) : Type 0 where
 
 -- it is a zone's mark, or a partition's
 pub zone-unstored : (zone : ℕ) → zone < 256 → Unstored (zonePlace zone)
-zone-unstored zone h = record { zones = λ z k l r e. omega arith; partitions = λ p k r e. omega arith; system = omega arith }
+zone-unstored zone h =
+    record { zones = λ z k l r e. omega arith; partitions = λ p k r e. omega arith; system = omega arith }
 
 pub partition-unstored : (partition : ℕ) → partition < 8 → Unstored (partitionPlace partition)
-partition-unstored partition h = record { zones = λ z k l r e. omega arith; partitions = λ p k r e. omega arith; system = omega arith }
+partition-unstored partition h =
+    record { zones = λ z k l r e. omega arith; partitions = λ p k r e. omega arith; system = omega arith }
 
 -- so no message stores there
 not-stored : (i : ℕ) (m : List ℕ) (n : ℕ) → Unstored i → byte 2 m < 256 → (n ≡ 0x05 → byte 2 m ≤ 240)
@@ -314,7 +352,9 @@ not-stored i m n u h o =
       every-run (NotStored i) (partitionPlace (byte 2 m) + 1) (take 7 (drop 2 m))
           (λ k l. u .partitions (byte 2 m) k (omega (arith, simp length-take at l))),
     ))
-    (λ e. every-turn (NotStored i) (partitionShort m) 8 (λ p l. (tt, ((λ q. u .partitions p 7 (omega arith) (omega arith)), tt))))
+    (λ e.
+    every-turn (NotStored i) (partitionShort m) 8
+    (λ p l. (tt, ((λ q. u .partitions p 7 (omega arith) (omega arith)), tt))))
     (λ e. every-run (NotStored i) systemPlace (1 ∷ take 11 (drop 1 m)) (λ k l p. let s = u .system in omega arith))
     tt
 

@@ -1,6 +1,6 @@
 -- Laws of the verdict on a message, of the lengths and of the checked values. Assumes nothing.
 use Prim.Native.Nat.{ℕ, _%_, _≤_, _<_}
-use native.Mathlib.Nat.{mod-lt}
+use native.Mathlib.Nat.{mod-lt, le-trans}
 use native.Mathlib.Omega.{arith}
 use mathlib.Core.Path.{_≡_, refl, sym, ap, subst, _∙_}
 use mathlib.Core.Bool.{Bool, true, false, cond, not, _&&_}
@@ -11,7 +11,7 @@ use lib.ListN.{length}
 use types.Run.{OneOf}
 use borrow.Author.Tests.{eqb-true, eqb-false, leb-true, eq-eqb, ne-eqb, le-leb}
 use Rattle.standard.specs.Words.{byte, bit, firstOf}
-use Rattle.standard.specs.Messages.{longest, lengthOk, known, lengthIn, numberOf, lengthFor}
+use Rattle.standard.specs.Messages.{longest, lengthOk, known, lengthIn, longestKnown, numberOf, lengthFor}
 use Rattle.standard.specs.Messages.{among, clear, x10Ok, clockOk, valuesOk, messageTests, checkOf}
 use Rattle.standard.proofs.Tables.{below}
 
@@ -56,12 +56,14 @@ passed-by m true p false q true r false s h = absurd (omega arith)
 pub passed : (m : List ℕ) → checkOf m ≡ 0 → Passed m
 unfolding checkOf
 passed m h =
-    passed-by m (lengthOk (length m)) refl (eqb (lengthFor (byte 1 m)) 0) refl (eqb (length m) (lengthFor (byte 1 m))) refl
+    passed-by m (lengthOk (length m)) refl (eqb (lengthFor (byte 1 m)) 0) refl
+    (eqb (length m) (lengthFor (byte 1 m))) refl
     (valuesOk (numberOf (byte 1 m)) m) refl h
 
 then-by : (a b c d : Bool) (later : List (Bool × ℕ))
     → firstOf (((a, 4) ∷ (b, 6) ∷ (c, 7) ∷ (d, 8) ∷ []) ++ later)
-    ≡ cond (eqb (firstOf ((a, 4) ∷ (b, 6) ∷ (c, 7) ∷ (d, 8) ∷ [])) 0) (firstOf later) (firstOf ((a, 4) ∷ (b, 6) ∷ (c, 7) ∷ (d, 8) ∷ []))
+    ≡ cond (eqb (firstOf ((a, 4) ∷ (b, 6) ∷ (c, 7) ∷ (d, 8) ∷ [])) 0) (firstOf later)
+    (firstOf ((a, 4) ∷ (b, 6) ∷ (c, 7) ∷ (d, 8) ∷ []))
 then-by true b c d later = refl
 then-by false true c d later = refl
 then-by false false true d later = refl
@@ -69,10 +71,12 @@ then-by false false false true later = refl
 then-by false false false false later = refl
 
 -- refusals that come after the message's own
-pub check-then : (m : List ℕ) (later : List (Bool × ℕ)) → firstOf (messageTests m ++ later) ≡ cond (eqb (checkOf m) 0) (firstOf later) (checkOf m)
+pub check-then : (m : List ℕ) (later : List (Bool × ℕ))
+    → firstOf (messageTests m ++ later) ≡ cond (eqb (checkOf m) 0) (firstOf later) (checkOf m)
 unfolding checkOf
 check-then m later =
-    then-by (not (lengthOk (length m))) (not (not (eqb (lengthFor (byte 1 m)) 0))) (not (eqb (length m) (lengthFor (byte 1 m))))
+    then-by (not (lengthOk (length m))) (not (not (eqb (lengthFor (byte 1 m)) 0)))
+    (not (eqb (length m) (lengthFor (byte 1 m))))
     (not (valuesOk (numberOf (byte 1 m)) m)) later
 
 -- refusals that come before the message's own
@@ -114,21 +118,33 @@ pub known-low : (t : ℕ) → (lengthFor t ≡ 0 → ⊥) → numberOf t ≡ t %
 unfolding lengthFor
 known-low t h = go (eqb (bit 6 t) 0) refl h
   where
-    go : (clear : Bool) → eqb (bit 6 t) 0 ≡ clear → (cond clear (lengthIn known (numberOf t)) 0 ≡ 0 → ⊥) → numberOf t ≡ t % 128
+    go : (clear : Bool) → eqb (bit 6 t) 0 ≡ clear → (cond clear (lengthIn known (numberOf t)) 0 ≡ 0 → ⊥)
+        → numberOf t ≡ t % 128
     go true e h = let z : bit 6 t ≡ 0 = eqb-true (bit 6 t) 0 e in omega arith
     go false e h = absurd (h refl)
 
 -- a number is a type byte with bits 6 and 7 clear
 pub number-length : (n : ℕ) → n < 64 → lengthFor n ≡ lengthIn known n
 unfolding lengthFor
-number-length n h = eqb→eq (lengthFor n) (lengthIn known n) (below (λ k. eqb (lengthFor k) (lengthIn known k)) 64 tt n h)
+number-length n h =
+    eqb→eq (lengthFor n) (lengthIn known n) (below (λ k. eqb (lengthFor k) (lengthIn known k)) 64 tt n h)
+
+-- "1 to 18": the longest of the 41 messages has the greatest of their lengths, and none is longer than what is read
+pub known-most : (n : ℕ) → n < 64 → lengthIn known n ≤ longestKnown
+known-most n h = leb→le _ _ (below (λ k. leb (lengthIn known k) longestKnown) 64 tt n h)
+
+pub known-longest : lengthIn known 0x03 ≡ longestKnown
+known-longest = refl
+
+pub known-read : longestKnown ≤ longest
+known-read = leb→le longestKnown longest tt
 
 -- the lengths of the table are read and written
 pub known-length : (t : ℕ) → (lengthFor t ≡ 0 → ⊥) → Length (lengthFor t)
 known-length t h =
     let below-64 : numberOf t < 64 = mod-lt t (lit< tt) in
     let e = length-number t h in
-    let few : lengthIn known (numberOf t) ≤ longest = leb→le _ _ (below (λ k. leb (lengthIn known k) longest) 64 tt (numberOf t) below-64) in
+    let few : lengthIn known (numberOf t) ≤ longest = le-trans (known-most (numberOf t) below-64) known-read in
     record { some = omega arith; few = subst (λ n. n ≤ longest) (sym e) few }
 
 -- a good message has the length of its number
@@ -142,7 +158,9 @@ unfolding checkOf
 good m h =
     good-by (lengthOk (length m)) (eqb (lengthFor (byte 1 m)) 0) (eqb (length m) (lengthFor (byte 1 m)))
     (valuesOk (numberOf (byte 1 m)) m) (λ e. h (eqb-true (lengthFor (byte 1 m)) 0 e))
-    (λ e. ok-length (length m) (subst Length (sym (eqb-true (length m) (lengthFor (byte 1 m)) e)) (known-length (byte 1 m) h)))
+    (λ e.
+    let same = eqb-true (length m) (lengthFor (byte 1 m)) e in
+    ok-length (length m) (subst Length (sym same) (known-length (byte 1 m) h)))
 
 -- ---- checked values
 
@@ -194,7 +212,8 @@ module _ (m : List ℕ) where
   unfolding valuesOk
   values-reply n e = rw e (simp and-true)
 
-  pub values-request : (n : ℕ) → n ≡ 0x30 → valuesOk n m ≡ (clear 4 (byte 3 m) && clear 5 (byte 3 m) && clear 7 (byte 3 m))
+  pub values-request : (n : ℕ) → n ≡ 0x30
+      → valuesOk n m ≡ (clear 4 (byte 3 m) && clear 5 (byte 3 m) && clear 7 (byte 3 m))
   unfolding valuesOk
   values-request n e = rw e (simp and-true)
 

@@ -26,8 +26,16 @@ put-one l i x = record { bytes = refl; end = refl }
 -- what is put after what was put
 pub put-then : {l l′ l″ a b : List ℕ} {i j k : ℕ} → Put l i a l′ j → Put l′ j b l″ k → Put l i (a ++ b) l″ k
 put-then {l} {l′} {l″} {a} {b} {i} {j} {k} p q = record {
-  bytes = q .bytes ∙ ap (λ (m : List ℕ). sets m j b) (p .bytes) ∙ ap (λ (n : ℕ). sets (sets l i a) n b) (p .end) ∙ sym (sets-append l i a b);
-  end = q .end ∙ ap (λ (n : ℕ). n + length b) (p .end) ∙ add-assoc i (length a) (length b) ∙ ap (λ (n : ℕ). i + n) (sym (length-append a b));
+  bytes =
+      q .bytes
+      ∙ ap (λ (m : List ℕ). sets m j b) (p .bytes)
+      ∙ ap (λ (n : ℕ). sets (sets l i a) n b) (p .end)
+      ∙ sym (sets-append l i a b);
+  end =
+      q .end
+      ∙ ap (λ (n : ℕ). n + length b) (p .end)
+      ∙ add-assoc i (length a) (length b)
+      ∙ ap (λ (n : ℕ). i + n) (sym (length-append a b));
 }
 
 pub put-length : {l part l′ : List ℕ} {i n : ℕ} → Put l i part l′ n → length l′ ≡ length l
@@ -45,11 +53,14 @@ pub put-laid : {l part l′ : List ℕ} {i n : ℕ} → Put l i part l′ n → 
 put-laid {l} {part} {l′} {i} {n} p h = p .bytes ∙ sets-eq part l i h
 
 -- the turn of a loop that copies: one more byte is stored
-pub sets-more : (l m : List ℕ) (i : ℕ) → i < length m → sets (set l i (getD m i 0)) (i + 1) (drop (i + 1) m) ≡ sets l i (drop i m)
-sets-more l m i h = ap (λ (n : ℕ). sets (set l i (getD m i 0)) n (drop n m)) (add-one i) ∙ ap (sets l i) (sym (drop-cons m i 0 h))
+pub sets-more : (l m : List ℕ) (i : ℕ) → i < length m
+    → sets (set l i (getD m i 0)) (i + 1) (drop (i + 1) m) ≡ sets l i (drop i m)
+sets-more l m i h =
+    ap (λ (n : ℕ). sets (set l i (getD m i 0)) n (drop n m)) (add-one i) ∙ ap (sets l i) (sym (drop-cons m i 0 h))
 
 -- stores from the beginning of the part from place on, said of the whole
-over : (place : ℕ) (part out : List ℕ) → place + length part ≤ length out → take place out ++ sets (drop place out) 0 part ≡ laid out place part
+over : (place : ℕ) (part out : List ℕ) → place + length part ≤ length out
+    → take place out ++ sets (drop place out) 0 part ≡ laid out place part
 over place part out h =
     let fit : 0 + length part ≤ length (drop place out) = rw length-drop (omega arith) in
     ap (λ (l : List ℕ). take place out ++ l)
@@ -60,7 +71,8 @@ over place part out h =
 
 -- the part of out from place on was lent as `&mut out[place..]`, and comes back with stores at its beginning
 pub mid-laid : (place : ℕ) (part out : List ℕ) → place + length part ≤ length out
-    → putMid place (length out - place) out (sets (take (length out - place) (drop place out)) 0 part) ≡ laid out place part
+    → putMid place (length out - place) out (sets (take (length out - place) (drop place out)) 0 part)
+    ≡ laid out place part
 mid-laid place part out h =
     let n = length out - place in
     let rest = drop place out in

@@ -21,7 +21,8 @@ asked-by t partition true false e f z = absurd (omega arith)
 asked-by t partition false few e f z = absurd (omega arith)
 
 -- a question that is not refused is asked of a whole table, and of one of its partitions
-pub asked-partition : (t : List ℕ) (partition : ℕ) → partitionRefusal t partition ≡ 0 → (length t ≡ tableBytes) × (partition ≤ 7)
+pub asked-partition : (t : List ℕ) (partition : ℕ) → partitionRefusal t partition ≡ 0
+    → (length t ≡ tableBytes) × (partition ≤ 7)
 unfolding partitionRefusal
 asked-partition t partition z = asked-by t partition (eqb (length t) tableBytes) (leb partition 7) refl refl z
 
@@ -61,7 +62,8 @@ partition-after t partition = go (eqb (length t) tableBytes) (leb partition 7)
 
 module _ {A : Type 0} {none value : A} {refusal number : ℕ} where
   -- a number that is the refusal, and what goes with it
-  pub answer-by : {answer : A} → number ≡ refusal → answer ≡ cond (eqb number 0) value none → Answered none refusal value number answer
+  pub answer-by : {answer : A} → number ≡ refusal → answer ≡ cond (eqb number 0) value none
+      → Answered none refusal value number answer
   answer-by e h = record { says = e; gives = rw e at h }
 
   -- a refused answer

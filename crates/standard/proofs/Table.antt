@@ -1,4 +1,5 @@
--- Laws of the writes of a table: what one leaves at each place, and what all of a list leave, one after another. Assumes nothing.
+-- Laws of the writes of a table: what one leaves at each place, and what all of a list leave, one after another.
+-- Assumes nothing.
 use Prim.Native.Nat.{ℕ, zero, suc, _+_, _*_, _/_, _%_, _^_, _≤_, _<_, max}
 use native.Mathlib.Nat.{add-zero, le-max-left, le-refl, le-trans}
 use native.Mathlib.Numerals.{add-one}
@@ -13,8 +14,30 @@ use lib.ListN.{length, getD, set, length-set}
 use lib.Seq.{sets, sets-eq, getD-set-same, getD-set-other, ext-getD}
 use borrow.Author.Tests.{eq-eqb, ne-eqb, eqb-true, eqb-false}
 use Rattle.standard.specs.Words.{bit, upTo, laid}
-use Rattle.standard.specs.Table.{Write, stores, marks, done, doneAll, storesFrom}
+use Rattle.standard.specs.Table.{tableBytes, zonePlace, partitionPlace, systemPlace, Write, stores, marks, done}
+use Rattle.standard.specs.Table.{doneAll, storesFrom}
 use Rattle.standard.proofs.Words.{flatMap-append, upTo-more}
+
+-- ---- the layout: "256 zone records of 8, then 8 partition records of 9, then the system record of 12", which fill the
+-- table
+
+pub zone-next : (zone : ℕ) → zonePlace (suc zone) ≡ zonePlace zone + 8
+zone-next zone = omega arith
+
+pub partition-next : (partition : ℕ) → partitionPlace (suc partition) ≡ partitionPlace partition + 9
+partition-next partition = omega arith
+
+pub zones-first : zonePlace 0 ≡ 0
+zones-first = refl
+
+pub then-partitions : zonePlace 256 ≡ partitionPlace 0
+then-partitions = refl
+
+pub then-system : partitionPlace 8 ≡ systemPlace
+then-system = refl
+
+pub system-last : systemPlace + 12 ≡ tableBytes
+system-last = refl
 
 -- ---- bits
 
@@ -61,12 +84,15 @@ pub done-length : (w : Write) (t : List ℕ) → length (done w t) ≡ length t
 done-length w t = ap length (done-set w t) ∙ simp length-set
 
 -- the place it names
-pub done-here : (w : Write) (t : List ℕ) → placeOf w < length t → getD (done w t) (placeOf w) 0 ≡ byteLeft w (getD t (placeOf w) 0)
-done-here w t h = ap (λ l. getD l (placeOf w) 0) (done-set w t) ∙ getD-set-same t (placeOf w) (byteLeft w (getD t (placeOf w) 0)) 0 h
+pub done-here : (w : Write) (t : List ℕ) → placeOf w < length t
+    → getD (done w t) (placeOf w) 0 ≡ byteLeft w (getD t (placeOf w) 0)
+done-here w t h =
+    ap (λ l. getD l (placeOf w) 0) (done-set w t) ∙ getD-set-same t (placeOf w) (byteLeft w (getD t (placeOf w) 0)) 0 h
 
 -- every other place
 pub done-there : (w : Write) (t : List ℕ) (i : ℕ) → (i ≡ placeOf w → ⊥) → getD (done w t) i 0 ≡ getD t i 0
-done-there w t i h = ap (λ l. getD l i 0) (done-set w t) ∙ getD-set-other t (placeOf w) i (byteLeft w (getD t (placeOf w) 0)) 0 h
+done-there w t i h =
+    ap (λ l. getD l i 0) (done-set w t) ∙ getD-set-other t (placeOf w) i (byteLeft w (getD t (placeOf w) 0)) 0 h
 
 -- ---- all writes, place by place
 
@@ -95,12 +121,14 @@ leftAt i (w ∷ ws) old = leftAt i ws (leftBy i w old)
 done-at : (w : Write) (t : List ℕ) (i : ℕ) → i < length t → getD (done w t) i 0 ≡ leftBy i w (getD t i 0)
 done-at w t i h = go (eqb i (placeOf w)) refl
   where
-    go : (same : Bool) → eqb i (placeOf w) ≡ same → getD (done w t) i 0 ≡ cond same (byteLeft w (getD t i 0)) (getD t i 0)
+    go : (same : Bool) → eqb i (placeOf w) ≡ same
+        → getD (done w t) i 0 ≡ cond same (byteLeft w (getD t i 0)) (getD t i 0)
     go true e = let p = eqb-true i (placeOf w) e in rw p (done-here w t (rw p at h))
     go false e = done-there w t i (eqb-false i (placeOf w) e)
 
 -- THE LAW of a place: its byte after all writes comes from its byte before, and from no other
-pub doneAll-at : (ws : List Write) (t : List ℕ) (i : ℕ) → i < length t → getD (doneAll ws t) i 0 ≡ leftAt i ws (getD t i 0)
+pub doneAll-at : (ws : List Write) (t : List ℕ) (i : ℕ) → i < length t
+    → getD (doneAll ws t) i 0 ≡ leftAt i ws (getD t i 0)
 unfolding doneAll leftAt
 doneAll-at [] t i h = refl
 doneAll-at (w ∷ ws) t i h = doneAll-at ws (done w t) i (rw (done-length w t) h) ∙ ap (leftAt i ws) (done-at w t i h)
@@ -130,7 +158,8 @@ leftBy-does i w = go w (eqb i (placeOf w)) refl
 -- and two after each other
 then-does : {f g : ℕ → ℕ} → Does f → Does g → Does (λ old. g (f old))
 then-does {f} {g} d (stored b h) = stored b (λ old. h (f old))
-then-does {f} {g} (stored b h) (marked bits k) = stored (bitOr b bits) (λ old. k (f old) ∙ ap (λ (x : ℕ). bitOr x bits) (h old))
+then-does {f} {g} (stored b h) (marked bits k) =
+    stored (bitOr b bits) (λ old. k (f old) ∙ ap (λ (x : ℕ). bitOr x bits) (h old))
 then-does {f} {g} (marked a h) (marked b k) =
     marked (bitOr a b) (λ old. k (f old) ∙ ap (λ (x : ℕ). bitOr x b) (h old) ∙ or-assoc old a b)
 
@@ -144,13 +173,18 @@ leftAt-does i (w ∷ ws) = then-does (leftBy-does i w) (leftAt-does i ws)
 does-twice : {f : ℕ → ℕ} → Does f → (old : ℕ) → f (f old) ≡ f old
 does-twice {f} (stored b h) old = h (f old) ∙ sym (h old)
 does-twice {f} (marked bits h) old =
-    h (f old) ∙ ap (λ (x : ℕ). bitOr x bits) (h old) ∙ or-assoc old bits bits ∙ ap (bitOr old) (or-self bits) ∙ sym (h old)
+    h (f old)
+    ∙ ap (λ (x : ℕ). bitOr x bits) (h old)
+    ∙ or-assoc old bits bits
+    ∙ ap (bitOr old) (or-self bits)
+    ∙ sym (h old)
 
 -- so all writes of a list done twice are done once
 pub doneAll-twice : (ws : List Write) (t : List ℕ) → doneAll ws (doneAll ws t) ≡ doneAll ws t
 doneAll-twice ws t = ext-getD 0 (doneAll ws (doneAll ws t)) (doneAll ws t) (doneAll-length ws (doneAll ws t)) at
   where
-    at : (i : ℕ) → i < length (doneAll ws (doneAll ws t)) → getD (doneAll ws (doneAll ws t)) i 0 ≡ getD (doneAll ws t) i 0
+    at : (i : ℕ) → i < length (doneAll ws (doneAll ws t))
+        → getD (doneAll ws (doneAll ws t)) i 0 ≡ getD (doneAll ws t) i 0
     at i h =
         let k : i < length (doneAll ws t) = rw (doneAll-length ws (doneAll ws t)) at h in
         let l : i < length t = rw (doneAll-length ws t) at k in
@@ -168,12 +202,14 @@ doneAll-run place [] t = refl
 doneAll-run place (b ∷ bs) t = doneAll-run (suc place) bs (set t place b)
 
 -- and said as bytes laid over the table
-pub doneAll-laid : (place : ℕ) (bs t : List ℕ) → place + length bs ≤ length t → doneAll (storesFrom place bs) t ≡ laid t place bs
+pub doneAll-laid : (place : ℕ) (bs t : List ℕ) → place + length bs ≤ length t
+    → doneAll (storesFrom place bs) t ≡ laid t place bs
 doneAll-laid place bs t h = doneAll-run place bs t ∙ sets-eq bs t place h
 
 -- a record that is stored: bits of its mark are set, and a run follows it
 pub mark-run : (place bits : ℕ) (bs t : List ℕ)
-    → doneAll (marks place bits ∷ storesFrom (place + 1) bs) t ≡ sets (set t place (bitOr (getD t place 0) bits)) (place + 1) bs
+    → doneAll (marks place bits ∷ storesFrom (place + 1) bs) t
+    ≡ sets (set t place (bitOr (getD t place 0) bits)) (place + 1) bs
 unfolding doneAll
 mark-run place bits bs t = doneAll-run (place + 1) bs (set t place (bitOr (getD t place 0) bits))
 
@@ -181,12 +217,16 @@ mark-run place bits bs t = doneAll-run (place + 1) bs (set t place (bitOr (getD 
 pub record-stored : (place bits : ℕ) (bs t : List ℕ)
     → sets t place (bitOr (getD t place 0) bits ∷ bs) ≡ doneAll (marks place bits ∷ storesFrom (place + 1) bs) t
 record-stored place bits bs t =
-    ap (λ (n : ℕ). sets (set t place (bitOr (getD t place 0) bits)) n bs) (sym (add-one place)) ∙ sym (mark-run place bits bs t)
+    ap (λ (n : ℕ). sets (set t place (bitOr (getD t place 0) bits)) n bs) (sym (add-one place))
+    ∙ sym (mark-run place bits bs t)
 
 -- the writes of one record more
 turns-more : (f : ℕ → List Write) (n : ℕ) → flatMap f (upTo (n + 1)) ≡ flatMap f (upTo n) ++ f n
 unfolding flatMap
-turns-more f n = ap (flatMap f) (upTo-more n) ∙ flatMap-append f (upTo n) (n ∷ []) ∙ ap (λ l. flatMap f (upTo n) ++ l) (append-nil (f n))
+turns-more f n =
+    ap (flatMap f) (upTo-more n)
+    ∙ flatMap-append f (upTo n) (n ∷ [])
+    ∙ ap (λ l. flatMap f (upTo n) ++ l) (append-nil (f n))
 
 -- the loop over records: one turn more
 pub doneAll-more : (f : ℕ → List Write) (n : ℕ) (t : List ℕ)
@@ -213,7 +253,8 @@ module _ (P : Write → Type 0) where
   every-run place [] h = tt
   every-run place (b ∷ bs) h = (
     subst (λ (n : ℕ). P (stores n b)) (add-zero place) (h 0 (omega arith)),
-    every-run (suc place) bs (λ k l. subst (λ (n : ℕ). P (stores n (getD bs k 0))) (omega arith) (h (suc k) (omega arith))),
+    every-run (suc place) bs
+        (λ k l. subst (λ (n : ℕ). P (stores n (getD bs k 0))) (omega arith) (h (suc k) (omega arith))),
   )
 
   -- in the records of a loop, turn by turn
@@ -230,12 +271,14 @@ abbrev pub Elsewhere : ℕ → Write → Type 0
 Elsewhere i w = i ≡ placeOf w → ⊥
 
 -- the first write names the place
-pub left-here : (i : ℕ) (w : Write) (ws : List Write) (old : ℕ) → i ≡ placeOf w → leftAt i (w ∷ ws) old ≡ leftAt i ws (byteLeft w old)
+pub left-here : (i : ℕ) (w : Write) (ws : List Write) (old : ℕ) → i ≡ placeOf w
+    → leftAt i (w ∷ ws) old ≡ leftAt i ws (byteLeft w old)
 unfolding leftAt
 left-here i w ws old h = ap (λ same. leftAt i ws (cond same (byteLeft w old) old)) (eq-eqb i (placeOf w) h)
 
 -- or does not
-pub left-there : (i : ℕ) (w : Write) (ws : List Write) (old : ℕ) → Elsewhere i w → leftAt i (w ∷ ws) old ≡ leftAt i ws old
+pub left-there : (i : ℕ) (w : Write) (ws : List Write) (old : ℕ) → Elsewhere i w
+    → leftAt i (w ∷ ws) old ≡ leftAt i ws old
 unfolding leftAt
 left-there i w ws old h = ap (λ same. leftAt i ws (cond same (byteLeft w old) old)) (ne-eqb i (placeOf w) h)
 
@@ -246,7 +289,8 @@ leftAt-elsewhere i [] old h = refl
 leftAt-elsewhere i (w ∷ ws) old h = left-there i w ws old (h .0) ∙ leftAt-elsewhere i ws old (h .1)
 
 -- a place that no write names stays, and so does all beyond the end
-pub doneAll-elsewhere : (ws : List Write) (t : List ℕ) (i : ℕ) → Every (Elsewhere i) ws → getD (doneAll ws t) i 0 ≡ getD t i 0
+pub doneAll-elsewhere : (ws : List Write) (t : List ℕ) (i : ℕ) → Every (Elsewhere i) ws
+    → getD (doneAll ws t) i 0 ≡ getD t i 0
 unfolding doneAll
 doneAll-elsewhere [] t i h = refl
 doneAll-elsewhere (w ∷ ws) t i h = doneAll-elsewhere ws (done w t) i (h .1) ∙ done-there w t i (h .0)
@@ -260,23 +304,28 @@ NotStored i (marks place bits) = Unit {0}
 pub leftAt-set : (i k : ℕ) (ws : List Write) (old : ℕ) → Every (NotStored i) ws → bit k old ≤ bit k (leftAt i ws old)
 unfolding leftAt
 leftAt-set i k [] old h = le-refl (bit k old)
-leftAt-set i k (w ∷ ws) old h = le-trans (one w (eqb i (placeOf w)) refl (h .0)) (leftAt-set i k ws (leftBy i w old) (h .1))
+leftAt-set i k (w ∷ ws) old h =
+    le-trans (one w (eqb i (placeOf w)) refl (h .0)) (leftAt-set i k ws (leftBy i w old) (h .1))
   where
-    one : (v : Write) (same : Bool) → eqb i (placeOf v) ≡ same → NotStored i v → bit k old ≤ bit k (cond same (byteLeft v old) old)
+    one : (v : Write) (same : Bool) → eqb i (placeOf v) ≡ same → NotStored i v
+        → bit k old ≤ bit k (cond same (byteLeft v old) old)
     one (stores place b) true e p = absurd (p (eqb-true i place e))
     one (marks place bits) true e p = rw (bit-or k old bits) (le-max-left (bit k old) (bit k bits))
     one v false e p = le-refl (bit k old)
 
 -- the byte that a run stores at one of its places
-pub leftAt-run : (place k : ℕ) (bs : List ℕ) (old : ℕ) → k < length bs → leftAt (place + k) (storesFrom place bs) old ≡ getD bs k 0
+pub leftAt-run : (place k : ℕ) (bs : List ℕ) (old : ℕ) → k < length bs
+    → leftAt (place + k) (storesFrom place bs) old ≡ getD bs k 0
 unfolding storesFrom
 leftAt-run place k [] old h = absurd (omega arith)
 leftAt-run place zero (b ∷ bs) old h =
     left-here (place + 0) (stores place b) (storesFrom (suc place) bs) old (add-zero place)
-    ∙ leftAt-elsewhere (place + 0) (storesFrom (suc place) bs) b (every-run (Elsewhere (place + 0)) (suc place) bs (λ k l e. omega arith))
+    ∙ leftAt-elsewhere (place + 0) (storesFrom (suc place) bs) b
+    (every-run (Elsewhere (place + 0)) (suc place) bs (λ k l e. omega arith))
 leftAt-run place (suc k) (b ∷ bs) old h =
     left-there (place + suc k) (stores place b) (storesFrom (suc place) bs) old (λ e. omega arith)
-    ∙ subst (λ (n : ℕ). leftAt n (storesFrom (suc place) bs) old ≡ getD bs k 0) (omega arith) (leftAt-run (suc place) k bs old (omega arith))
+    ∙ subst (λ (n : ℕ). leftAt n (storesFrom (suc place) bs) old ≡ getD bs k 0) (omega arith)
+    (leftAt-run (suc place) k bs old (omega arith))
 
 -- a stored record: bits of its mark are set, and a run follows it
 module _ (place bits : ℕ) (bs : List ℕ) where
@@ -284,10 +333,12 @@ module _ (place bits : ℕ) (bs : List ℕ) where
   pub record-mark : (old : ℕ) → leftAt place (marks place bits ∷ storesFrom (place + 1) bs) old ≡ bitOr old bits
   record-mark old =
       left-here place (marks place bits) (storesFrom (place + 1) bs) old refl
-      ∙ leftAt-elsewhere place (storesFrom (place + 1) bs) (bitOr old bits) (every-run (Elsewhere place) (place + 1) bs (λ k l e. omega arith))
+      ∙ leftAt-elsewhere place (storesFrom (place + 1) bs) (bitOr old bits)
+      (every-run (Elsewhere place) (place + 1) bs (λ k l e. omega arith))
 
   -- its bytes
-  pub record-byte : (k old : ℕ) → k < length bs → leftAt (place + 1 + k) (marks place bits ∷ storesFrom (place + 1) bs) old ≡ getD bs k 0
+  pub record-byte : (k old : ℕ) → k < length bs
+      → leftAt (place + 1 + k) (marks place bits ∷ storesFrom (place + 1) bs) old ≡ getD bs k 0
   record-byte k old h =
       left-there (place + 1 + k) (marks place bits) (storesFrom (place + 1) bs) old (λ e. omega arith)
       ∙ leftAt-run (place + 1) k bs old h
@@ -295,7 +346,9 @@ module _ (place bits : ℕ) (bs : List ℕ) where
   -- every other place
   pub record-elsewhere : (i : ℕ) → ((k : ℕ) → k ≤ length bs → i ≡ place + k → ⊥)
       → Every (Elsewhere i) (marks place bits ∷ storesFrom (place + 1) bs)
-  record-elsewhere i h = ((λ e. h 0 (omega arith) (omega arith)), every-run (Elsewhere i) (place + 1) bs (λ k l e. h (suc k) l (omega arith)))
+  record-elsewhere i h =
+      let run = every-run (Elsewhere i) (place + 1) bs (λ k l e. h (suc k) l (omega arith)) in
+      ((λ e. h 0 (omega arith) (omega arith)), run)
 
 -- the byte that the one turn leaves that names a place
 pub leftAt-turn : (f : ℕ → List Write) (n i j old : ℕ) → j < n → ((k : ℕ) → (k ≡ j → ⊥) → Every (Elsewhere i) (f k))
@@ -311,7 +364,8 @@ leftAt-turn f (suc n) i j old l h =
         → leftAt i (f n) (leftAt i (flatMap f (upTo n)) old) ≡ leftAt i (f j) old
     go true e before =
         let p : n ≡ j = eqb-true n j e in
-        ap (leftAt i (f n)) (leftAt-elsewhere i (flatMap f (upTo n)) old (every-turn (Elsewhere i) f n (λ k m. h k (λ q. omega arith))))
+        ap (leftAt i (f n))
+        (leftAt-elsewhere i (flatMap f (upTo n)) old (every-turn (Elsewhere i) f n (λ k m. h k (λ q. omega arith))))
         ∙ ap (λ k. leftAt i (f k) old) p
     go false e before =
         let p = eqb-false n j e in
@@ -325,7 +379,8 @@ heardTurn place on short j = marks (place j) 1 ∷ stores (place j + on) (short 
 -- the turn of a loop over such records
 pub heard-more : (place : ℕ → ℕ) (on : ℕ) (short : ℕ → ℕ) (n : ℕ) (t : List ℕ) {now : List ℕ} {at b : ℕ}
     → now ≡ doneAll (flatMap (heardTurn place on short) (upTo n)) t → at ≡ place n → b ≡ short n
-    → set (set now at (bitOr (getD now at 0) 1)) (at + on) b ≡ doneAll (flatMap (heardTurn place on short) (upTo (n + 1))) t
+    → set (set now at (bitOr (getD now at 0) 1)) (at + on) b
+    ≡ doneAll (flatMap (heardTurn place on short) (upTo (n + 1))) t
 unfolding doneAll
 heard-more place on short n t {now} {at} {b} e p q =
     ap₂ (λ (a c : ℕ). set (set now a (bitOr (getD now a 0) 1)) (a + on) c) p q
@@ -336,14 +391,16 @@ module _ (place : ℕ → ℕ) (on : ℕ) (short : ℕ → ℕ)
     (apart : (i j : ℕ) → place i ≡ place j → i ≡ j)
     (off : (i j : ℕ) → place i ≡ place j + on → ⊥) where
   -- the mark of one of them
-  pub heard-mark : (n j old : ℕ) → j < n → leftAt (place j) (flatMap (heardTurn place on short) (upTo n)) old ≡ bitOr old 1
+  pub heard-mark : (n j old : ℕ) → j < n
+      → leftAt (place j) (flatMap (heardTurn place on short) (upTo n)) old ≡ bitOr old 1
   heard-mark n j old h =
       leftAt-turn (heardTurn place on short) n (place j) j old h (λ k d. ((λ e. d (sym (apart j k e))), (off j k, tt)))
       ∙ left-here (place j) (marks (place j) 1) (stores (place j + on) (short j) ∷ []) old refl
       ∙ leftAt-elsewhere (place j) (stores (place j + on) (short j) ∷ []) (bitOr old 1) (off j j, tt)
 
   -- its short byte
-  pub heard-short : (n j old : ℕ) → j < n → leftAt (place j + on) (flatMap (heardTurn place on short) (upTo n)) old ≡ short j
+  pub heard-short : (n j old : ℕ) → j < n
+      → leftAt (place j + on) (flatMap (heardTurn place on short) (upTo n)) old ≡ short j
   unfolding leftAt
   heard-short n j old h =
       leftAt-turn (heardTurn place on short) n (place j + on) j old h

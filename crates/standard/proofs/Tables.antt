@@ -1,4 +1,5 @@
--- A rule of a table, proved at all of its entries by one test that antt computes, one entry after the other; and so a rule of every number
+-- A rule of a table, proved at all of its entries by one test that antt computes, one entry after the other; and so a
+-- rule of every number
 -- below a bound. Assumes nothing.
 use Prim.Native.Nat.{ℕ, zero, suc, _+_, _<_}
 use native.Mathlib.Nat.{add-zero, zero-add, add-suc, suc-add, le-of-suc-le-suc, not-suc-le-zero}
@@ -21,7 +22,8 @@ abbrev pub every : (ℕ → ℕ → Bool) → ℕ → List ℕ → Bool
 every f i [] = true
 every f i (x ∷ xs) = f i x && every f (suc i) xs
 
-from : (f : ℕ → ℕ → Bool) (xs : List ℕ) (i : ℕ) → T (every f i xs) → (k : ℕ) → k < length xs → T (f (i + k) (getD xs k 0))
+from : (f : ℕ → ℕ → Bool) (xs : List ℕ) (i : ℕ) → T (every f i xs) → (k : ℕ) → k < length xs
+    → T (f (i + k) (getD xs k 0))
 from f [] i t k h = absurd (not-suc-le-zero h)
 from f (x ∷ xs) i t zero h = subst (λ m. T (f m x)) (sym (add-zero i)) (both-left (f i x) (every f (suc i) xs) t)
 from f (x ∷ xs) i t (suc k) h =

@@ -6,7 +6,8 @@ use lib.Dec.{eqb, leb}
 use lib.ListN.{length}
 use Rattle.standard.specs.Words.{byte, bit, firstOf}
 
--- "Read and written: 1 to 18"; the longest of the 41 messages has its own name, since a longer one can be read that none of them is
+-- "Read and written: 1 to 18"; the longest of the 41 messages has its own name, since a longer one can be read that
+-- none of them is
 abbrev pub longest : ℕ
 longest = 18
 
@@ -74,7 +75,8 @@ numberOf t = t % 64
 abbrev pub flagOf : ℕ → Bool
 flagOf t = eqb (bit 7 t) 1
 
--- the length that a type byte asks; 0: "a number not here is unrecognised", and "bit 6 set makes the number unrecognised"
+-- the length that a type byte asks; 0: "a number not here is unrecognised", and "bit 6 set makes the number
+-- unrecognised"
 unfoldable pub lengthFor : ℕ → ℕ
 lengthFor t = cond (eqb (bit 6 t) 0) (lengthIn known (numberOf t)) 0
 

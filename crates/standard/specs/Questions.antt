@@ -1,4 +1,5 @@
--- Document 01, "The table": the questions about a table, each answered by a number or by a part of the table. Zones and partitions are counted
+-- Document 01, "The table": the questions about a table, each answered by a number or by a part of the table. Zones and
+-- partitions are counted
 -- from 0, as in Table.antt. Assumes nothing.
 use Prim.Native.Nat.{ℕ, _+_}
 use mathlib.Core.Path.{_≡_}
@@ -17,7 +18,8 @@ tableRefusal t = firstOf (tableTest t ∷ [])
 unfoldable pub partitionRefusal : List ℕ → ℕ → ℕ
 partitionRefusal t partition = firstOf (tableTest t ∷ (not (leb partition 7), 8) ∷ [])
 
--- "Zone: mark, partition mask, type flags 1-3, condition flags 1-2, short flags": the six from mask to condition 2, "bytes 3-8" of 04h
+-- "Zone: mark, partition mask, type flags 1-3, condition flags 1-2, short flags": the six from mask to condition 2,
+-- "bytes 3-8" of 04h
 abbrev pub zonePart : List ℕ → ℕ → List ℕ
 zonePart t zone = take 6 (drop (zonePlace zone + 1) t)
 
@@ -29,7 +31,8 @@ partitionPart t partition = take 9 (drop (partitionPlace partition) t)
 abbrev pub systemPart : List ℕ → List ℕ
 systemPart t = take 12 (drop systemPlace t)
 
--- what a question promises: the refusal's number, and the answer; "a refused call's counts and lengths are 0, .. its returned parts empty"
+-- what a question promises: the refusal's number, and the answer; "a refused call's counts and lengths are 0, .. its
+-- returned parts empty"
 pub record Answered {A : Type 0} (none : A) (refusal : ℕ) (value : A) (number : ℕ) (answer : A) : Type 0 where
   pub says : number ≡ refusal
   pub gives : answer ≡ cond (eqb refusal 0) value none

@@ -1,4 +1,5 @@
--- Document 01, "The table": what a message writes, and the table afterwards. Zones and partitions are counted from 0 here, as on the line, so
+-- Document 01, "The table": what a message writes, and the table afterwards. Zones and partitions are counted from 0
+-- here, as on the line, so
 -- zone 1 is 0. Assumes nothing.
 use Prim.Native.Nat.{ℕ, suc, _+_, _*_, _/_, _%_, max}
 use mathlib.Core.Path.{_≡_}
@@ -63,7 +64,8 @@ unfoldable pub storesFrom : ℕ → List ℕ → List Write
 storesFrom place [] = []
 storesFrom place (b ∷ bs) = stores place b ∷ storesFrom (suc place) bs
 
--- "faulted from condition 1 bit 0; bypass from bit 3 or 4; trouble from bit 1, 2, 5 or 6; alarm memory from condition 2 bit 0; bits 4-7 clear"
+-- "faulted from condition 1 bit 0; bypass from bit 3 or 4; trouble from bit 1, 2, 5 or 6; alarm memory from condition 2
+-- bit 0; bits 4-7 clear"
 abbrev pub shortFrom : ℕ → ℕ → ℕ
 shortFrom c1 c2 =
     bit 0 c1

@@ -41,7 +41,8 @@ module _ (m : List ℕ) (n : ℕ) {ok : Bool} (e : byte 1 m % 128 ≡ n) (w : wi
   unsized h = all ∙ rw (ne-eqb (length m) (lengthFor n) h)
 
 -- with no value to check
-pub unchecked : (m : List ℕ) (n : ℕ) → byte 1 m % 128 ≡ n → within 0x04 n 0x08 ≡ true → (lengthFor n ≡ 0 → ⊥) → valuesOk n m ≡ true
+pub unchecked : (m : List ℕ) (n : ℕ) → byte 1 m % 128 ≡ n → within 0x04 n 0x08 ≡ true → (lengthFor n ≡ 0 → ⊥)
+    → valuesOk n m ≡ true
     → storable m ≡ eqb (length m) (lengthFor n)
 unchecked m n e w known v = all m n e w known v ∙ and-true (eqb (length m) (lengthFor n))
 
@@ -78,19 +79,27 @@ other-storable m other =
 pub taken : (t m : List ℕ) → length t ≡ tableBytes → storable m ≡ true → Taken (numberOf (byte 1 m)) t m
 taken t m w h = record { number = refl; whole = w; good = stored-is m h .0 }
 
+-- and so what is taken of the five is storable
+storing : {n : ℕ} (t m : List ℕ) → Taken n t m → 0x04 ≤ numberOf (byte 1 m) → numberOf (byte 1 m) ≤ 0x08
+    → (isTable t && storable m) ≡ true
+unfolding storable
+storing t m k lo hi =
+    rw (
+      eq-eqb (length t) tableBytes (k .whole),
+      eq-eqb (checkOf m) 0 (k .good),
+      le-leb 0x04 (numberOf (byte 1 m)) lo,
+      le-leb (numberOf (byte 1 m)) 0x08 hi,
+    )
+
+unlike : _≡_ {A = Bool} true false → ⊥
+unlike h = let x : _≡_ {A = ℕ} 0 1 = cc in omega arith
+
 -- else the table stays
 pub kept : (t m : List ℕ) → (isTable t && storable m) ≡ false → appliedTo t m ≡ t
-unfolding storable
 kept t m h = go (eqb (applyRefusal t m) 0) refl
   where
     go : (ok : Bool) → eqb (applyRefusal t m) 0 ≡ ok → appliedTo t m ≡ t
-    go false e = refused-leaves t m (λ z. let y : _≡_ {A = Bool} true false = sym (eq-eqb (applyRefusal t m) 0 z) ∙ e in let x : _≡_ {A = ℕ} 0 1 = cc in absurd (omega arith))
+    go false e = refused-leaves t m (λ z. unlike (sym (eq-eqb (applyRefusal t m) 0 z) ∙ e))
     go true e =
         let k = taken-by t m (eqb-true (applyRefusal t m) 0 e) in
-        others-keep t m
-        (λ lo hi.
-        let y : _≡_ {A = Bool} true false =
-        sym (rw (eq-eqb (length t) tableBytes (k .whole), eq-eqb (checkOf m) 0 (k .good), le-leb 0x04 (numberOf (byte 1 m)) lo, le-leb (numberOf (byte 1 m)) 0x08 hi)) ∙ h
-        in
-        let x : _≡_ {A = ℕ} 0 1 = cc in
-        absurd (omega arith))
+        others-keep t m (λ lo hi. unlike (sym (storing t m k lo hi) ∙ h))

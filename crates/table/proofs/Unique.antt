@@ -1,4 +1,5 @@
--- Each public function's promise settles its answer, and every byte of what it was lent: two that meet the predicate that its
+-- Each public function's promise settles its answer, and every byte of what it was lent: two that meet the predicate
+-- that its
 -- contract generates are equal. Assumes nothing.
 use Prim.Native.Nat.{ℕ}
 use mathlib.Core.Path.{_≡_, sym, ap₂, _∙_}
@@ -42,43 +43,53 @@ pub fresh-unique : (κs : Lfts 0) (a : Dens κs fresh-kinds.ps) (e : AtExit (end
     (x y : resT fresh-kinds.r κs .Denot) → fresh.Post κs a x e → fresh.Post κs a y e → x ≡ y
 fresh-unique κs a e x y p q = p ∙ sym q
 
-pub refusal-unique : (κs : Lfts 1) (a : Dens κs refusal-kinds.ps) (e : AtExit (endedOf 1 refusal-kinds.ps refusal-kinds.r) κs)
+pub refusal-unique : (κs : Lfts 1) (a : Dens κs refusal-kinds.ps)
+    (e : AtExit (endedOf 1 refusal-kinds.ps refusal-kinds.r) κs)
     (x y : resT refusal-kinds.r κs .Denot) → refusal.Post κs a x e → refusal.Post κs a y e → x ≡ y
 refusal-unique κs a e x y p q = p ∙ sym q
 
 -- it says nothing; the table is the first of its parameters
-pub store-unique : (κs : Lfts 2) (a : Dens κs store-kinds.ps) (e e′ : AtExit (endedOf 2 store-kinds.ps store-kinds.r) κs)
+pub store-unique : (κs : Lfts 2) (a : Dens κs store-kinds.ps)
+    (e e′ : AtExit (endedOf 2 store-kinds.ps store-kinds.r) κs)
     (x y : resT store-kinds.r κs .Denot) → store.Post κs a x e → store.Post κs a y e′ → now (e .0) ≡ now (e′ .0)
 store-unique κs a e e′ x y p q = p ∙ sym q
 
-pub apply-unique : (κs : Lfts 2) (a : Dens κs apply-kinds.ps) (e e′ : AtExit (endedOf 2 apply-kinds.ps apply-kinds.r) κs)
-    (x y : resT apply-kinds.r κs .Denot) → apply.Post κs a x e → apply.Post κs a y e′ → (x ≡ y) × (now (e .0) ≡ now (e′ .0))
+pub apply-unique : (κs : Lfts 2) (a : Dens κs apply-kinds.ps)
+    (e e′ : AtExit (endedOf 2 apply-kinds.ps apply-kinds.r) κs)
+    (x y : resT apply-kinds.r κs .Denot) → apply.Post κs a x e → apply.Post κs a y e′ → (x ≡ y) ×
+    (now (e .0) ≡ now (e′ .0))
 apply-unique κs a e e′ x y p q = (p .says ∙ sym (q .says), p .leaves ∙ sym (q .leaves))
 
-pub zone-mark-unique : (κs : Lfts 1) (a : Dens κs zone-mark-kinds.ps) (e : AtExit (endedOf 1 zone-mark-kinds.ps zone-mark-kinds.r) κs)
+pub zone-mark-unique : (κs : Lfts 1) (a : Dens κs zone-mark-kinds.ps)
+    (e : AtExit (endedOf 1 zone-mark-kinds.ps zone-mark-kinds.r) κs)
     (x y : resT zone-mark-kinds.r κs .Denot) → zone-mark.Post κs a x e → zone-mark.Post κs a y e → x ≡ y
 zone-mark-unique κs a e x y p q = answers p q
 
-pub zone-short-unique : (κs : Lfts 1) (a : Dens κs zone-short-kinds.ps) (e : AtExit (endedOf 1 zone-short-kinds.ps zone-short-kinds.r) κs)
+pub zone-short-unique : (κs : Lfts 1) (a : Dens κs zone-short-kinds.ps)
+    (e : AtExit (endedOf 1 zone-short-kinds.ps zone-short-kinds.r) κs)
     (x y : resT zone-short-kinds.r κs .Denot) → zone-short.Post κs a x e → zone-short.Post κs a y e → x ≡ y
 zone-short-unique κs a e x y p q = answers p q
 
-pub zone-heard-unique : (κs : Lfts 1) (a : Dens κs zone-heard-kinds.ps) (e : AtExit (endedOf 1 zone-heard-kinds.ps zone-heard-kinds.r) κs)
+pub zone-heard-unique : (κs : Lfts 1) (a : Dens κs zone-heard-kinds.ps)
+    (e : AtExit (endedOf 1 zone-heard-kinds.ps zone-heard-kinds.r) κs)
     (x y : resT zone-heard-kinds.r κs .Denot) → zone-heard.Post κs a x e → zone-heard.Post κs a y e → x ≡ y
 zone-heard-unique κs a e x y p q = answers p q
 
 -- the part that is handed back, and the number, the last of the parameters
-pub zone-part-unique : (κs : Lfts 2) (a : Dens κs zone-part-kinds.ps) (e e′ : AtExit (endedOf 2 zone-part-kinds.ps zone-part-kinds.r) κs)
+pub zone-part-unique : (κs : Lfts 2) (a : Dens κs zone-part-kinds.ps)
+    (e e′ : AtExit (endedOf 2 zone-part-kinds.ps zone-part-kinds.r) κs)
     (x y : resT zone-part-kinds.r κs .Denot) → zone-part.Post κs a x e → zone-part.Post κs a y e′
     → (now (e .1 .1 .0) ≡ now (e′ .1 .1 .0)) × (now x ≡ now y)
 zone-part-unique κs a e e′ x y p q = answer-settled p q
 
-pub partition-part-unique : (κs : Lfts 2) (a : Dens κs partition-part-kinds.ps) (e e′ : AtExit (endedOf 2 partition-part-kinds.ps partition-part-kinds.r) κs)
+pub partition-part-unique : (κs : Lfts 2) (a : Dens κs partition-part-kinds.ps)
+    (e e′ : AtExit (endedOf 2 partition-part-kinds.ps partition-part-kinds.r) κs)
     (x y : resT partition-part-kinds.r κs .Denot) → partition-part.Post κs a x e → partition-part.Post κs a y e′
     → (now (e .1 .1 .0) ≡ now (e′ .1 .1 .0)) × (now x ≡ now y)
 partition-part-unique κs a e e′ x y p q = answer-settled p q
 
-pub system-part-unique : (κs : Lfts 2) (a : Dens κs system-part-kinds.ps) (e e′ : AtExit (endedOf 2 system-part-kinds.ps system-part-kinds.r) κs)
+pub system-part-unique : (κs : Lfts 2) (a : Dens κs system-part-kinds.ps)
+    (e e′ : AtExit (endedOf 2 system-part-kinds.ps system-part-kinds.r) κs)
     (x y : resT system-part-kinds.r κs .Denot) → system-part.Post κs a x e → system-part.Post κs a y e′
     → (now (e .1 .0) ≡ now (e′ .1 .0)) × (now x ≡ now y)
 system-part-unique κs a e e′ x y p q = answer-settled p q

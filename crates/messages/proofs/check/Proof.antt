@@ -44,14 +44,18 @@ module _ (m : List ℕ) where
         wrong v = rw (le-leb _ _ (sized .some), le-leb _ _ (sized .few), ne-eqb _ 0 known, eq-eqb _ _ whole, v)
 
         of-number : length m ≡ lengthFor (numberOf (byte 1 m))
-        of-number = whole ∙ length-number (byte 1 m) known ∙ sym (number-length (numberOf (byte 1 m)) (mod-lt (byte 1 m) (lit< tt)))
+        of-number =
+            whole
+            ∙ length-number (byte 1 m) known
+            ∙ sym (number-length (numberOf (byte 1 m)) (mod-lt (byte 1 m) (lit< tt)))
 
 -- past the first two tests
 sized : (c : tie.Else2) → Length (length (c .before .before .before .args .message .now))
 sized c = record { some = omega arith; few = c .if2 .left }
 
 -- past the third
-known : (c : tie.Else3) → lengthFor (byte 1 (c .before .before .before .before .before .before .args .message .now)) ≡ 0 → ⊥
+known : (c : tie.Else3) → lengthFor (byte 1 (c .before .before .before .before .before .before .args .message .now)) ≡ 0
+    → ⊥
 known c e = c .if3 .left (c .before .length-for .ensures ∙ e)
 
 -- past the fourth
@@ -91,12 +95,14 @@ values-ok-requires c κs =
 returns-5 : tie.Need-returns-5
 returns-5 c =
     let past = c .before .before in
-    good _ (sized (past .before .before .before .before)) (known (past .before)) (whole past) (sym (c .before .values-ok .ensures) ∙ c .if5 .taken)
+    good _ (sized (past .before .before .before .before)) (known (past .before)) (whole past)
+    (sym (c .before .values-ok .ensures) ∙ c .if5 .taken)
 
 returns-6 : tie.Need-returns-6
 returns-6 c =
     let past = c .before .before in
-    wrong _ (sized (past .before .before .before .before)) (known (past .before)) (whole past) (sym (c .before .values-ok .ensures) ∙ c .if5 .left)
+    wrong _ (sized (past .before .before .before .before)) (known (past .before)) (whole past)
+    (sym (c .before .values-ok .ensures) ∙ c .if5 .left)
 
 pub check-spec : {M : Type 1} → statement M
 check-spec =

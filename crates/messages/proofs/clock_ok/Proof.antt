@@ -1,4 +1,5 @@
--- `messages::clock_ok` meets its contract. Where the two ways past an `&&` meet, the value is that of the rules so far, taken together.
+-- `messages::clock_ok` meets its contract. Where the two ways past an `&&` meet, the value is that of the rules so far,
+-- taken together.
 -- Assumes nothing.
 use Prim.Native.Nat.{ℕ}
 use mathlib.Core.Path.{_≡_, refl, _∙_}
@@ -35,21 +36,26 @@ toMinute m = toHour m && leb (byte 6 m) 59
 
 to-month : (c : tie.Joined1) → c .if1 .if2 ≡ toMonth (c .before .before .before .args .message .now)
 to-month c =
-    ⊎-elim (λ w. past-true refl (le-leb _ _ (w .0 .taken)) (w .3 ∙ w .2 .ensures)) (λ w. past-false _ refl (lt-leb _ _ (w .0 .left)) (w .1))
+    ⊎-elim (λ w. past-true refl (le-leb _ _ (w .0 .taken)) (w .3 ∙ w .2 .ensures))
+    (λ w. past-false _ refl (lt-leb _ _ (w .0 .left)) (w .1))
     (c .if1 .came)
 
 to-day : (c : tie.Joined2) → c .if2 .if3 ≡ toDay (c .before .before .before .before .args .message .now)
 to-day c =
-    ⊎-elim (λ w. past-true (to-month (c .before)) (w .0 .taken) (w .3 ∙ w .2 .ensures)) (λ w. past-false _ (to-month (c .before)) (w .0 .left) (w .1))
+    ⊎-elim (λ w. past-true (to-month (c .before)) (w .0 .taken) (w .3 ∙ w .2 .ensures))
+    (λ w. past-false _ (to-month (c .before)) (w .0 .left) (w .1))
     (c .if2 .came)
 
 to-hour : (c : tie.Joined3) → c .if3 .if4 ≡ toHour (c .before .before .before .before .before .args .message .now)
 to-hour c =
-    ⊎-elim (λ w. past-true (to-day (c .before)) (w .0 .taken) (w .2)) (λ w. past-false _ (to-day (c .before)) (w .0 .left) (w .1)) (c .if3 .came)
+    ⊎-elim (λ w. past-true (to-day (c .before)) (w .0 .taken) (w .2))
+    (λ w. past-false _ (to-day (c .before)) (w .0 .left) (w .1)) (c .if3 .came)
 
-to-minute : (c : tie.Joined4) → c .if4 .if5 ≡ toMinute (c .before .before .before .before .before .before .args .message .now)
+to-minute : (c : tie.Joined4)
+    → c .if4 .if5 ≡ toMinute (c .before .before .before .before .before .before .args .message .now)
 to-minute c =
-    ⊎-elim (λ w. past-true (to-hour (c .before)) (w .0 .taken) (w .2)) (λ w. past-false _ (to-hour (c .before)) (w .0 .left) (w .1)) (c .if4 .came)
+    ⊎-elim (λ w. past-true (to-hour (c .before)) (w .0 .taken) (w .2))
+    (λ w. past-false _ (to-hour (c .before)) (w .0 .left) (w .1)) (c .if4 .came)
 
 shared-slice-read-if1 : tie.Need-shared-slice-read-if1
 shared-slice-read-if1 c = search needs

@@ -1,4 +1,5 @@
--- `messages::length_for` meets its contract: each of the 64 entries is what `standard` says of its number, by one computed test.
+-- `messages::length_for` meets its contract: each of the 64 entries is what `standard` says of its number, by one
+-- computed test.
 -- Assumes nothing.
 use Prim.Native.Nat.{ℕ, _%_, _<_}
 use native.Mathlib.Nat.{mod-lt}
@@ -19,7 +20,8 @@ abbrev right : ℕ → ℕ → Bool
 right number length = eqb length (lengthIn known number)
 
 -- `rw` finds the table in the goal; the test over the whole of it computes, to `Unit` where every entry is right
-entry : (table : List ℕ) (number : ℕ) → T (every right 0 table) → number < length table → getD table number 0 ≡ lengthIn known number
+entry : (table : List ℕ) (number : ℕ) → T (every right 0 table) → number < length table
+    → getD table number 0 ≡ lengthIn known number
 entry table number t h = eqb→eq (getD table number 0) (lengthIn known number) (at right table t number h)
 
 cast-result : tie.Need-cast-result

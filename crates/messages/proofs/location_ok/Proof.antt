@@ -1,4 +1,5 @@
--- `messages::location_ok` meets its contract: each arm has its number, and with it the message's length and its rule. That a mask says what
+-- `messages::location_ok` meets its contract: each arm has its number, and with it the message's length and its rule.
+-- That a mask says what
 -- the rule says of single bits is computed for all 256 bytes. Assumes nothing.
 use Prim.Native.Nat.{ℕ, _<_}
 use native.Mathlib.Omega.{arith}
@@ -28,11 +29,13 @@ command c = ⊎-elim (λ e. absurd (c .match .rest .0 .1 e)) (λ h. omega (arith
 
 shared-slice-read-result : tie.Need-shared-slice-read-result
 unfolding lengthFor
-shared-slice-read-result c = let size = c .before .before .pre .1 ∙ ap lengthFor (c .before .match .keys1) in omega arith
+shared-slice-read-result c =
+    let size = c .before .before .pre .1 ∙ ap lengthFor (c .before .match .keys1) in omega arith
 
 shared-slice-read-result-2 : tie.Need-shared-slice-read-result-2
 unfolding lengthFor
-shared-slice-read-result-2 c = let size = c .before .before .pre .1 ∙ ap lengthFor (c .before .match .keys2) in omega arith
+shared-slice-read-result-2 c =
+    let size = c .before .before .pre .1 ∙ ap lengthFor (c .before .match .keys2) in omega arith
 
 shared-slice-read-result-3 : tie.Need-shared-slice-read-result-3
 unfolding lengthFor
@@ -41,17 +44,20 @@ shared-slice-read-result-3 c = let size = c .before .before .pre .1 ∙ ap lengt
 returns : tie.Need-returns
 returns c =
     reply-mask (getD (c .before .before .args .message .now) 2 0) (omega (arith, c .shared-slice-known .given 2))
-    ∙ sym (values-reply (c .before .before .args .message .now) (c .before .before .args .number) (c .before .match .keys1))
+    ∙ sym
+    (values-reply (c .before .before .args .message .now) (c .before .before .args .number) (c .before .match .keys1))
 
 returns-2 : tie.Need-returns-2
 returns-2 c =
     request-mask (getD (c .before .before .args .message .now) 2 0) (omega (arith, c .shared-slice-known2 .given 2))
-    ∙ sym (values-request (c .before .before .args .message .now) (c .before .before .args .number) (c .before .match .keys2))
+    ∙ sym
+    (values-request (c .before .before .args .message .now) (c .before .before .args .number) (c .before .match .keys2))
 
 returns-3 : tie.Need-returns-3
 returns-3 c =
     command-mask (getD (c .before .before .args .message .now) 2 0) (omega (arith, c .shared-slice-known3 .given 2))
-    ∙ sym (values-command (c .before .before .args .message .now) (c .before .before .args .number) (command (c .before)))
+    ∙ sym
+    (values-command (c .before .before .args .message .now) (c .before .before .args .number) (command (c .before)))
 
 pub location-ok-spec : {M : Type 1} → statement M
 location-ok-spec =

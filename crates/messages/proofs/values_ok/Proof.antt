@@ -25,7 +25,8 @@ use Rattle.messages.proofs.values_ok.Statement.{statement}
 use Rattle.messages.proofs.values_ok.Tie as tie
 
 -- a place that the messages of some numbers all have
-has : (m : List ℕ) (n place : ℕ) (ks : List ℕ) → length m ≡ lengthFor n → All (λ k. place < lengthFor k) ks → OneOf ks n → place < length m
+has : (m : List ℕ) (n place : ℕ) (ks : List ℕ) → length m ≡ lengthFor n → All (λ k. place < lengthFor k) ks → OneOf ks n
+    → place < length m
 has m n place ks e p h = subst (λ size. place < size) (sym e) (one-of (λ k. place < lengthFor k) ks n p h)
 
 -- no rule is for the numbers that are left
@@ -49,13 +50,15 @@ shared-slice-read-result : tie.Need-shared-slice-read-result
 unfolding lengthFor
 shared-slice-read-result c =
     let s = c .before .before .before in
-    has (s .args .message .now) (s .args .number) 1 (0x05 ∷ 0x25 ∷ []) (s .pre) (lit< tt, lit< tt) (c .before .match .keys1)
+    has (s .args .message .now) (s .args .number) 1 (0x05 ∷ 0x25 ∷ []) (s .pre) (lit< tt, lit< tt)
+    (c .before .match .keys1)
 
 shared-slice-read-result-2 : tie.Need-shared-slice-read-result-2
 unfolding lengthFor
 shared-slice-read-result-2 c =
     let s = c .before .before .before in
-    has (s .args .message .now) (s .args .number) 1 (0x06 ∷ 0x26 ∷ []) (s .pre) (lit< tt, lit< tt) (c .before .match .keys2)
+    has (s .args .message .now) (s .args .number) 1 (0x06 ∷ 0x26 ∷ []) (s .pre) (lit< tt, lit< tt)
+    (c .before .match .keys2)
 
 x10-ok-requires : tie.Need-x10-ok-requires
 unfolding lengthFor
@@ -89,37 +92,51 @@ location-ok-requires c κs =
     (⊎-elim (λ w. inl (w .keys6)) (λ w. inr (w .1 .left, omega arith)) (c .match .came), c .before .before .pre)
 
 returns : tie.Need-returns
-returns c = let s = c .before .before .before in sym (values-offset (s .args .message .now) (s .args .number) (c .before .match .keys1))
+returns c =
+    let s = c .before .before .before in
+    sym (values-offset (s .args .message .now) (s .args .number) (c .before .match .keys1))
 
 returns-2 : tie.Need-returns-2
-returns-2 c = let s = c .before .before .before in sym (values-partition (s .args .message .now) (s .args .number) (c .before .match .keys2))
+returns-2 c =
+    let s = c .before .before .before in
+    sym (values-partition (s .args .message .now) (s .args .number) (c .before .match .keys2))
 
 returns-3 : tie.Need-returns-3
 returns-3 c =
-    let s = c .before .before .before in c .x10-ok .ensures ∙ sym (values-x10 (s .args .message .now) (s .args .number) (c .before .match .keys3))
+    let s = c .before .before .before in
+    c .x10-ok .ensures ∙ sym (values-x10 (s .args .message .now) (s .args .number) (c .before .match .keys3))
 
 returns-4 : tie.Need-returns-4
-returns-4 c = let s = c .before .before .before in sym (values-key (s .args .message .now) (s .args .number) (c .before .match .keys4))
+returns-4 c =
+    let s = c .before .before .before in
+    sym (values-key (s .args .message .now) (s .args .number) (c .before .match .keys4))
 
 returns-5 : tie.Need-returns-5
-returns-5 c = let s = c .before .before .before in sym (values-keypad (s .args .message .now) (s .args .number) (c .before .match .keys5))
+returns-5 c =
+    let s = c .before .before .before in
+    sym (values-keypad (s .args .message .now) (s .args .number) (c .before .match .keys5))
 
 returns-6 : tie.Need-returns-6
 returns-6 c =
-    let s = c .before .before .before in c .clock-ok .ensures ∙ sym (values-clock (s .args .message .now) (s .args .number) (c .before .match .keys7))
+    let s = c .before .before .before in
+    c .clock-ok .ensures ∙ sym (values-clock (s .args .message .now) (s .args .number) (c .before .match .keys7))
 
 returns-7 : tie.Need-returns-7
 returns-7 c = search needs
 
 returns-8 : tie.Need-returns-8
-returns-8 c = unchecked (c .before) (λ e. omega arith) (λ e. omega arith) (λ e. omega arith) (λ e. omega arith) (λ e. omega arith)
+returns-8 c =
+    unchecked (c .before) (λ e. omega arith) (λ e. omega arith) (λ e. omega arith) (λ e. omega arith) (λ e. omega arith)
 
 returns-9 : tie.Need-returns-9
-returns-9 c = unchecked (c .before .before .before) (λ e. omega arith) (λ e. omega arith) (λ e. omega arith) (λ e. omega arith) (λ e. omega arith)
+returns-9 c =
+    unchecked (c .before .before .before) (λ e. omega arith) (λ e. omega arith) (λ e. omega arith) (λ e. omega arith)
+    (λ e. omega arith)
 
 returns-10 : tie.Need-returns-10
 returns-10 c =
-    unchecked (c .before .before .before .before) (λ e. omega arith) (λ e. omega arith) (λ e. omega arith) (λ e. omega arith) (λ e. omega arith)
+    unchecked (c .before .before .before .before) (λ e. omega arith) (λ e. omega arith) (λ e. omega arith)
+    (λ e. omega arith) (λ e. omega arith)
 
 returns-11 : tie.Need-returns-11
 returns-11 c = search needs

@@ -1,4 +1,5 @@
--- `messages::x10_ok` meets its contract: the house is at most 15 past the first test, and each arm's functions decide the rest.
+-- `messages::x10_ok` meets its contract: the house is at most 15 past the first test, and each arm's functions decide
+-- the rest.
 -- Assumes nothing.
 use Prim.Native.Nat.{ℕ, _≤_, _<_}
 use mathlib.Core.Path.{_≡_}
@@ -57,10 +58,14 @@ shared-slice-read-match : tie.Need-shared-slice-read-match
 shared-slice-read-match c = search needs
 
 returns-2 : tie.Need-returns-2
-returns-2 c = let past = c .before .before .before in any-unit (past .before .before .args .message .now) (past .if1 .left) (c .match .keys1)
+returns-2 c =
+    let past = c .before .before .before in
+    any-unit (past .before .before .args .message .now) (past .if1 .left) (c .match .keys1)
 
 returns-3 : tie.Need-returns-3
-returns-3 c = let past = c .before .before .before in one-unit (past .before .before .args .message .now) (past .if1 .left) (c .match .keys2)
+returns-3 c =
+    let past = c .before .before .before in
+    one-unit (past .before .before .args .message .now) (past .if1 .left) (c .match .keys2)
 
 returns-4 : tie.Need-returns-4
 returns-4 c =

@@ -1,4 +1,5 @@
--- `group` meets its contract: a table that is refused is not whole, and no group is above the sixteenth. Assumes nothing.
+-- `group` meets its contract: a table that is refused is not whole, and no group is above the sixteenth. Assumes
+-- nothing.
 use mathlib.Core.Path.{_≡_, sym, _∙_}
 use mathlib.Core.Bool.{true, false}
 use borrow.Author.Needs.{needs}

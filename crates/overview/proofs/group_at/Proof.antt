@@ -1,4 +1,5 @@
--- `group_at` meets its contract. After j turns the counts are those of the group's first j zones, at most j each. Assumes nothing.
+-- `group_at` meets its contract. After j turns the counts are those of the group's first j zones, at most j each.
+-- Assumes nothing.
 use Prim.Native.Nat.{ℕ, _+_, _-_, _*_, _≤_, min}
 use native.Mathlib.Omega.{arith}
 use mathlib.Core.Path.{_≡_, refl, sym, ap, ap₂, _∙_}
@@ -71,8 +72,10 @@ indexAt c = c .before .before .before .before .before .before .args .index
 
 -- what a turn adds
 record Turn (c : tie.Joined1 Inv-loop μ-loop) : Type 0 where
-  heard : c .if1 .heard ≡ c .before .before .before .before .loop .heard + heardIn (tableAt c) (indexAt c) (c .before .before .before .before .loop .j)
-  faulted : c .if1 .faulted ≡ c .before .before .before .before .loop .faulted + faultedIn (tableAt c) (indexAt c) (c .before .before .before .before .loop .j)
+  heard : c .if1 .heard ≡ c .before .before .before .before .loop .heard + heardIn (tableAt c) (indexAt c)
+      (c .before .before .before .before .loop .j)
+  faulted : c .if1 .faulted ≡ c .before .before .before .before .loop .faulted + faultedIn (tableAt c) (indexAt c)
+      (c .before .before .before .before .loop .j)
 
 counts : (c : tie.Joined1 Inv-loop μ-loop) → Turn c
 counts c =
@@ -95,8 +98,10 @@ counts c =
 loop-again : tie.Need-loop-again Inv-loop μ-loop
 loop-again c = let turn = counts c in
     let at = c .before .before .before .before in (
-      rw total-more (turn .heard ∙ ap (λ (n : ℕ). n + heardIn (tableAt c) (indexAt c) (at .loop .j)) (at .loop .inv .0)),
-      rw total-more (turn .faulted ∙ ap (λ (n : ℕ). n + faultedIn (tableAt c) (indexAt c) (at .loop .j)) (at .loop .inv .1)),
+      rw total-more
+          (turn .heard ∙ ap (λ (n : ℕ). n + heardIn (tableAt c) (indexAt c) (at .loop .j)) (at .loop .inv .0)),
+      rw total-more
+          (turn .faulted ∙ ap (λ (n : ℕ). n + faultedIn (tableAt c) (indexAt c) (at .loop .j)) (at .loop .inv .1)),
       let h = turn .heard in omega arith,
       let f = turn .faulted in omega arith,
       omega arith,

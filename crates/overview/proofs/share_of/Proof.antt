@@ -1,4 +1,5 @@
--- `share_of` meets its contract: f64 holds counts below 65,536 exactly, and the division of two such numbers is their fraction rounded once.
+-- `share_of` meets its contract: f64 holds counts below 65,536 exactly, and the division of two such numbers is their
+-- fraction rounded once.
 -- Assumes nothing.
 use borrow.Author.Needs.{needs}
 use Prim.Native.Nat.{ℕ, zero, suc, _<_}
@@ -12,7 +13,8 @@ use Rattle.standard.proofs.Shares.{div-whole}
 use Rattle.overview.proofs.share_of.Statement.{statement}
 use Rattle.overview.proofs.share_of.Tie as tie
 
-divided : (h f : ℕ) → 0 < h → h < 65536 → f < 65536 → some (div binary64 (ofInt binary64 (pos f)) (ofInt binary64 (pos h))) ≡ shareOf h f
+divided : (h f : ℕ) → 0 < h → h < 65536 → f < 65536
+    → some (div binary64 (ofInt binary64 (pos f)) (ofInt binary64 (pos h))) ≡ shareOf h f
 divided zero f heard hh hf = absurd (omega arith)
 divided (suc h) f heard hh hf = ap some (div-whole binary64 f (suc h) (omega arith) (omega arith) heard)
 

@@ -1,4 +1,5 @@
--- `view` meets its contract. The table's own number says whether it has its length. After `index` turns the groups so far are stored and
+-- `view` meets its contract. The table's own number says whether it has its length. After `index` turns the groups so
+-- far are stored and
 -- the counts are their sums, each at most 16 a group. Assumes nothing.
 use borrow.Author.Needs.{needs}
 use Prim.Native.Nat.{ℕ, suc, _+_, _-_, _*_, _≤_, _<_}
@@ -46,7 +47,8 @@ entire : (c : tie.Else1 Inv-loop μ-loop) → length (c .before .before .before 
 entire c = asked-whole _ (sym (c .before .refusal .ensures) ∙ c .if1 .left)
 
 -- a group's counts fit, so their sums do
-small : (c : tie.After-group-at Inv-loop μ-loop) → Bounded (c .group-at .result .heard) (c .group-at .result .faulted) 16
+small : (c : tie.After-group-at Inv-loop μ-loop)
+    → Bounded (c .group-at .result .heard) (c .group-at .result .faulted) 16
 small c =
     let at = c .before .before in
     let b = group-bounded (at .before .before .before .before .args .table .now) (suc (at .loop .index)) in

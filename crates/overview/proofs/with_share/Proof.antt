@@ -1,4 +1,5 @@
--- `with_share` meets its contract: its counts are those it is given, and its share is what `share_of` makes of them. Assumes nothing.
+-- `with_share` meets its contract: its counts are those it is given, and its share is what `share_of` makes of them.
+-- Assumes nothing.
 use borrow.Author.Needs.{needs}
 use Rattle.overview.proofs.with_share.Statement.{statement}
 use Rattle.overview.proofs.with_share.Tie as tie

@@ -23,7 +23,8 @@ returns-2 : tie.Need-returns-2
 returns-2 c =
     let t = c .before .before .before .before .args .type-byte in
     rw (c .before .before .before .match .keys1)
-    (c .good-reply .ensures ∙ sym (reply-good t (λ z. c .before .if1 .left (c .before .before .length-for .ensures ∙ z))))
+    (c .good-reply .ensures
+    ∙ sym (reply-good t (λ z. c .before .if1 .left (c .before .before .length-for .ensures ∙ z))))
 
 returns-3 : tie.Need-returns-3
 unfolding replyOf
@@ -42,7 +43,9 @@ unfolding replyOf
 returns-5 c = rw (c .match .keys2)
 
 returns-6 : tie.Need-returns-6
-returns-6 c = sym (reply-negative (c .before .before .args .verdict) (c .before .before .args .type-byte) (omega arith) (omega arith))
+returns-6 c =
+    let a = c .before .before .args in
+    sym (reply-negative (a .verdict) (a .type-byte) (omega arith) (omega arith))
 
 pub reply-spec : {M : Type 1} → statement M
 reply-spec =

@@ -1,4 +1,5 @@
--- `table::apply` meets its contract: what is stored is not refused, and else the refusals are asked in their order. Assumes nothing.
+-- `table::apply` meets its contract: what is stored is not refused, and else the refusals are asked in their order.
+-- Assumes nothing.
 use Prim.Native.Nat.{ℕ}
 use mathlib.Core.Path.{_≡_, sym, ap, ap₂, _∙_}
 use mathlib.Core.Bool.{true, cond, _&&_}
@@ -33,7 +34,9 @@ left : (c : tie.After-stores) → c .stores .last .0 ≡ appliedTo (tableOf c) (
 left c = c .stores .ensures .1 ∙ ap (appliedTo (tableOf c)) (take-length (messageOf c))
 
 not-refused : (t m : List ℕ) → (isTable t && storable m) ≡ true → applyRefusal t m ≡ 0
-not-refused t m h = let b = both-true (isTable t) (storable m) h in taken-says (taken t m (eqb-true (length t) tableBytes (b .0)) (b .1))
+not-refused t m h =
+    let b = both-true (isTable t) (storable m) h in
+    taken-says (taken t m (eqb-true (length t) tableBytes (b .0)) (b .1))
 
 slice-aggregate-stores : tie.Need-slice-aggregate-stores
 slice-aggregate-stores c = ap length (sym (take-length (c .before .before .before .before .args .message .now)))
@@ -46,7 +49,9 @@ same-length c = search needs
 
 returns : tie.Need-returns
 returns c = let at = c .before .before .before in
-    let stored = sym (at .stores .ensures .0 ∙ ap (λ m. isTable (tableOf at) && storable m) (take-length (messageOf at))) ∙ c .if1 .taken in
+    let stored =
+    sym (at .stores .ensures .0 ∙ ap (λ m. isTable (tableOf at) && storable m) (take-length (messageOf at)))
+    ∙ c .if1 .taken in
     record { says = sym (not-refused (tableOf at) (messageOf at) stored); leaves = left at }
 
 refusal-requires : tie.Need-refusal-requires
@@ -70,7 +75,8 @@ returns-2 c = let check = c .before in
     let at = refusal .before .before .before .before .before in
     let t = tableOf at in
     let m = messageOf at in
-    let asked : refusal .refusal .result ≡ tableRefusal t = refusal .refusal .ensures ∙ ap tableRefusal (left at) ∙ applied-refusal t m in
+    let asked : refusal .refusal .result ≡ tableRefusal t =
+    refusal .refusal .ensures ∙ ap tableRefusal (left at) ∙ applied-refusal t m in
     let checked : check .check .result ≡ checkOf m = check .check .ensures ∙ ap checkOf (take-length m) in
     record {
       says = c .first-of .ensures ∙ ap₂ (λ (x y : ℕ). cond (eqb x 0) y x) asked checked ∙ sym (refusal-after t m);

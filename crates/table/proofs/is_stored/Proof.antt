@@ -1,11 +1,12 @@
--- `table::is_stored` meets its contract: an arm for each of the five, and every other message is not storable. Assumes nothing.
+-- `table::is_stored` meets its contract: an arm for each of the five, and every other message is not storable. Assumes
+-- nothing.
 use Prim.Native.Nat.{ℕ, _%_}
 use native.Mathlib.Omega.{arith}
 use mathlib.Core.Path.{_≡_, refl, sym, ap, _∙_}
 use mathlib.Core.Bool.{true, false}
 use mathlib.Core.List.{List}
 use mathlib.Core.Logic.{inl}
-use lib.Dec.{eqb}
+use lib.Dec.{eqb, leb}
 use lib.ListN.{length}
 use borrow.Author.Tests.{ne-eqb}
 use borrow.Author.Needs.{needs}
@@ -20,6 +21,13 @@ use Rattle.table.proofs.is_stored.Tie as tie
 -- the place where the number is known, and the message there
 abbrev messageOf : tie.After-shared-slice-known2 → List ℕ
 messageOf c = c .before .before .before .args .message .now
+
+-- the two that have a value to check
+offset : (m : List ℕ) → valuesOk 0x05 m ≡ leb (byte 2 m) 240
+offset m = values-offset m 0x05 (inl refl)
+
+partition : (m : List ℕ) → valuesOk 0x06 m ≡ leb (byte 2 m) 7
+partition m = values-partition m 0x06 (inl refl)
 
 returns : tie.Need-returns
 returns c = sym (none-storable (c .before .before .args .message .now) (c .if1 .taken))
@@ -67,49 +75,58 @@ cast-result-3 c = search needs
 
 returns-2 : tie.Need-returns-2
 unfolding lengthFor valuesOk
-returns-2 c = let at = c .before .before in
+returns-2 c =
+    let at = c .before .before in
     ap (eqb (length (messageOf at))) (c .length-for .ensures)
     ∙ sym (unchecked (messageOf at) 0x04 (c .before .match .keys1) refl (λ z. omega arith) refl)
 
 returns-3 : tie.Need-returns-3
 unfolding lengthFor
-returns-3 c = let call = c .before .before in
+returns-3 c =
+    let call = c .before .before in
     let at = call .before .before in
     let size = c .before .if2 .taken ∙ call .length-for2 .ensures in
-    sym (sized (messageOf at) 0x05 (call .before .match .keys2) refl (λ z. omega arith) (values-offset (messageOf at) 0x05 (inl refl)) size)
+    sym (sized (messageOf at) 0x05 (call .before .match .keys2) refl (λ z. omega arith) (offset (messageOf at)) size)
 
 returns-4 : tie.Need-returns-4
 unfolding lengthFor
-returns-4 c = let call = c .before in
+returns-4 c =
+    let call = c .before in
     let at = call .before .before in
     let size : length (messageOf at) ≡ lengthFor 0x05 → ⊥ = λ e. c .if2 .left (e ∙ sym (call .length-for2 .ensures)) in
     ne-eqb _ _ (c .if2 .left)
-    ∙ sym (unsized (messageOf at) 0x05 (call .before .match .keys2) refl (λ z. omega arith) (values-offset (messageOf at) 0x05 (inl refl)) size)
+    ∙ sym
+    (unsized (messageOf at) 0x05 (call .before .match .keys2) refl (λ z. omega arith) (offset (messageOf at)) size)
 
 returns-5 : tie.Need-returns-5
 unfolding lengthFor
-returns-5 c = let call = c .before .before in
+returns-5 c =
+    let call = c .before .before in
     let at = call .before .before in
     let size = c .before .if3 .taken ∙ call .length-for3 .ensures in
-    sym (sized (messageOf at) 0x06 (call .before .match .keys3) refl (λ z. omega arith) (values-partition (messageOf at) 0x06 (inl refl)) size)
+    sym (sized (messageOf at) 0x06 (call .before .match .keys3) refl (λ z. omega arith) (partition (messageOf at)) size)
 
 returns-6 : tie.Need-returns-6
 unfolding lengthFor
-returns-6 c = let call = c .before in
+returns-6 c =
+    let call = c .before in
     let at = call .before .before in
     let size : length (messageOf at) ≡ lengthFor 0x06 → ⊥ = λ e. c .if3 .left (e ∙ sym (call .length-for3 .ensures)) in
     ne-eqb _ _ (c .if3 .left)
-    ∙ sym (unsized (messageOf at) 0x06 (call .before .match .keys3) refl (λ z. omega arith) (values-partition (messageOf at) 0x06 (inl refl)) size)
+    ∙ sym
+    (unsized (messageOf at) 0x06 (call .before .match .keys3) refl (λ z. omega arith) (partition (messageOf at)) size)
 
 returns-7 : tie.Need-returns-7
 unfolding lengthFor valuesOk
-returns-7 c = let at = c .before .before in
+returns-7 c =
+    let at = c .before .before in
     ap (eqb (length (messageOf at))) (c .length-for4 .ensures)
     ∙ sym (unchecked (messageOf at) 0x07 (c .before .match .keys4) refl (λ z. omega arith) refl)
 
 returns-8 : tie.Need-returns-8
 unfolding lengthFor valuesOk
-returns-8 c = let at = c .before .before in
+returns-8 c =
+    let at = c .before .before in
     ap (eqb (length (messageOf at))) (c .length-for5 .ensures)
     ∙ sym (unchecked (messageOf at) 0x08 (c .before .match .keys5) refl (λ z. omega arith) refl)
 

@@ -1,4 +1,5 @@
--- `table::partition_part` meets its contract: a table and a partition that are not refused have the part. Assumes nothing.
+-- `table::partition_part` meets its contract: a table and a partition that are not refused have the part. Assumes
+-- nothing.
 use Prim.Native.Nat.{ℕ}
 use native.Mathlib.Omega.{arith}
 use mathlib.Core.Path.{_≡_, sym, ap₂, _∙_}
@@ -11,7 +12,9 @@ use Rattle.table.proofs.partition_part.Statement.{statement}
 use Rattle.table.proofs.partition_part.Tie as tie
 
 -- the two refusals are asked in the definition's order
-number : (c : tie.After-first-of) → let a = c .before .before .before .before .args in c .first-of .result ≡ partitionRefusal (a .table .now) (a .partition)
+number : (c : tie.After-first-of)
+    → let a = c .before .before .before .before .args in c .first-of .result
+    ≡ partitionRefusal (a .table .now) (a .partition)
 number c =
     let a = c .before .before .before .before .args in
     c .first-of .ensures

@@ -1,4 +1,5 @@
--- `table::put` meets its contract: a storable message has the length of its number and values within its places, and each arm does the writes of its number. Assumes nothing.
+-- `table::put` meets its contract: a storable message has the length of its number and values within its places, and
+-- each arm does the writes of its number. Assumes nothing.
 use Prim.Native.Nat.{ℕ}
 use native.Mathlib.Omega.{arith}
 use mathlib.Core.Path.{_≡_, refl, sym, _∙_}
@@ -22,13 +23,17 @@ abbrev messageOf : tie.After-shared-slice-known2 → List ℕ
 messageOf c = start c .args .message .now
 
 -- a message of number n is taken, and passed
-is : (c : tie.After-shared-slice-known2) {n : ℕ} → numberOf (byte 1 (messageOf c)) ≡ n → Taken n (start c .args .table .now) (messageOf c)
-is c e = let k = taken (start c .args .table .now) (messageOf c) (start c .pre .0) (start c .pre .1) in record { number = e; whole = k .whole; good = k .good }
+is : (c : tie.After-shared-slice-known2) {n : ℕ} → numberOf (byte 1 (messageOf c)) ≡ n
+    → Taken n (start c .args .table .now) (messageOf c)
+is c e =
+    let k = taken (start c .args .table .now) (messageOf c) (start c .pre .0) (start c .pre .1) in
+    record { number = e; whole = k .whole; good = k .good }
 
 good : (c : tie.After-shared-slice-known2) → Passed (messageOf c)
 good c = passed (messageOf c) (is c refl .good)
 
-sized : (c : tie.After-shared-slice-known2) {n : ℕ} → numberOf (byte 1 (messageOf c)) ≡ n → length (messageOf c) ≡ lengthIn known n
+sized : (c : tie.After-shared-slice-known2) {n : ℕ} → numberOf (byte 1 (messageOf c)) ≡ n
+    → length (messageOf c) ≡ lengthIn known n
 sized c {n} e = passed-number (messageOf c) n (good c) e
 
 -- the last arm's number
@@ -57,7 +62,8 @@ put-partition-requires c κs = let at = c .before .before in
     (is at e .whole, (sized at e, passed-partition (messageOf at) (good at) e))
 
 put-partitions-requires : tie.Need-put-partitions-requires
-put-partitions-requires c κs = let at = c .before .before in let e = c .before .match .keys4 in (is at e .whole, sized at e)
+put-partitions-requires c κs =
+    let at = c .before .before in let e = c .before .match .keys4 in (is at e .whole, sized at e)
 
 put-system-requires : tie.Need-put-system-requires
 put-system-requires c κs = let at = c .before .before in let e = system (c .before) in (is at e .whole, sized at e)
@@ -67,35 +73,49 @@ same-length c = search needs
 
 returns : tie.Need-returns
 unfolding writesOf
-returns c = let call = c .before .before in call .put-zone .ensures ∙ sym (taken-leaves (is (call .before .before .before) (call .before .before .match .keys1)))
+returns c =
+    let call = c .before .before in
+    call .put-zone .ensures
+    ∙ sym (taken-leaves (is (call .before .before .before) (call .before .before .match .keys1)))
 
 same-length-2 : tie.Need-same-length-2
 same-length-2 c = search needs
 
 returns-2 : tie.Need-returns-2
 unfolding writesOf
-returns-2 c = let call = c .before .before in call .put-zones .ensures ∙ sym (taken-leaves (is (call .before .before .before) (call .before .before .match .keys2)))
+returns-2 c =
+    let call = c .before .before in
+    call .put-zones .ensures
+    ∙ sym (taken-leaves (is (call .before .before .before) (call .before .before .match .keys2)))
 
 same-length-3 : tie.Need-same-length-3
 same-length-3 c = search needs
 
 returns-3 : tie.Need-returns-3
 unfolding writesOf
-returns-3 c = let call = c .before .before in call .put-partition .ensures ∙ sym (taken-leaves (is (call .before .before .before) (call .before .before .match .keys3)))
+returns-3 c =
+    let call = c .before .before in
+    call .put-partition .ensures
+    ∙ sym (taken-leaves (is (call .before .before .before) (call .before .before .match .keys3)))
 
 same-length-4 : tie.Need-same-length-4
 same-length-4 c = search needs
 
 returns-4 : tie.Need-returns-4
 unfolding writesOf
-returns-4 c = let call = c .before .before in call .put-partitions .ensures ∙ sym (taken-leaves (is (call .before .before .before) (call .before .before .match .keys4)))
+returns-4 c =
+    let call = c .before .before in
+    call .put-partitions .ensures
+    ∙ sym (taken-leaves (is (call .before .before .before) (call .before .before .match .keys4)))
 
 same-length-5 : tie.Need-same-length-5
 same-length-5 c = search needs
 
 returns-5 : tie.Need-returns-5
 unfolding writesOf
-returns-5 c = let call = c .before .before in call .put-system .ensures ∙ sym (taken-leaves (is (call .before .before .before) (system (call .before .before))))
+returns-5 c =
+    let call = c .before .before in
+    call .put-system .ensures ∙ sym (taken-leaves (is (call .before .before .before) (system (call .before .before))))
 
 pub put-spec : {M : Type 1} → statement M
 put-spec =

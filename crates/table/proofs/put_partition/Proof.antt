@@ -1,4 +1,5 @@
--- `table::put_partition` meets its contract: the partition's mark and seven bytes, made whole, are stored from its mark on. Assumes nothing.
+-- `table::put_partition` meets its contract: the partition's mark and seven bytes, made whole, are stored from its mark
+-- on. Assumes nothing.
 use Prim.Native.Nat.{ℕ, _+_, _≤_, _<_}
 use native.Mathlib.Omega.{arith}
 use mathlib.Core.Path.{_≡_, sym, ap, _∙_}

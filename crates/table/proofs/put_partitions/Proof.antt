@@ -1,4 +1,5 @@
--- `table::put_partitions` meets its contract. The loop's invariant is the definition after p partitions. Assumes nothing.
+-- `table::put_partitions` meets its contract. The loop's invariant is the definition after p partitions. Assumes
+-- nothing.
 use Prim.Native.Nat.{_+_, _-_, _≤_}
 use native.Mathlib.Omega.{arith}
 use mathlib.Core.Path.{_≡_, refl, ap, _∙_}
@@ -11,7 +12,8 @@ use Rattle.table.proofs.put_partitions.Statement.{statement}
 use Rattle.table.proofs.put_partitions.Tie as tie
 
 abbrev Inv-loop : tie.InvT-loop
-Inv-loop table₀ message p₀ table p = (table ≡ doneAll (flatMap (partitionShort message) (upTo p)) table₀) × (p ≤ 8) × (length table ≡ tableBytes)
+Inv-loop table₀ message p₀ table p =
+    (table ≡ doneAll (flatMap (partitionShort message) (upTo p)) table₀) × (p ≤ 8) × (length table ≡ tableBytes)
 
 abbrev μ-loop : tie.MeasureT-loop
 μ-loop table₀ message p₀ table p = 8 - p
@@ -54,7 +56,8 @@ loop-again c =
     let m = a .message .now in
     let p = at .loop .p in
     let e : 1 + p ≡ 2 + p - 1 = omega arith in (
-      heard-more partitionPlace 8 (λ q. byte (2 + q) m) p (a .table .now) (at .loop .inv .0) (c .before .before .partition-place .ensures) (ap (λ i. getD m i 0) e),
+      heard-more partitionPlace 8 (λ q. byte (2 + q) m) p (a .table .now) (at .loop .inv .0)
+          (c .before .before .partition-place .ensures) (ap (λ i. getD m i 0) e),
       omega arith,
       simp length-set (at .loop .inv .2),
     )

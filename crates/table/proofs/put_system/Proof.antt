@@ -19,7 +19,8 @@ stored t m h =
 
 -- what was handed in, from the place where the record is made
 abbrev start : tie.After-fields → tie.Start
-start c = c .before .before .before .before .before .before .before .before .before .before .before .before .before .before
+start c =
+    c .before .before .before .before .before .before .before .before .before .before .before .before .before .before
 
 shared-slice-read-t5 : tie.Need-shared-slice-read-t5
 shared-slice-read-t5 c = search needs

@@ -1,4 +1,5 @@
--- `table::put_zones` meets its contract. The loop's invariant is the definition after two zones for each turn. Assumes nothing.
+-- `table::put_zones` meets its contract. The loop's invariant is the definition after two zones for each turn. Assumes
+-- nothing.
 use Prim.Native.Nat.{ℕ, _+_, _-_, _*_, _/_, _%_, _≤_}
 use native.Mathlib.Omega.{arith}
 use mathlib.Core.Path.{_≡_, refl, sym, ap, _∙_}
@@ -35,26 +36,31 @@ high j m =
 abbrev heard : List ℕ → ℕ → ℕ → List ℕ
 heard t p b = set (set t p (bitOr (getD t p 0) 1)) (p + 7) b
 
-one : (t m now : List ℕ) (n p b : ℕ) → now ≡ after t m n → p ≡ zonePlace (byte 2 m + n) → b ≡ fourBits n (byte (3 + n / 2) m)
+one : (t m now : List ℕ) (n p b : ℕ) → now ≡ after t m n → p ≡ zonePlace (byte 2 m + n)
+    → b ≡ fourBits n (byte (3 + n / 2) m)
     → heard now p b ≡ after t m (n + 1)
 one t m now n p b e f g = heard-more (λ i. zonePlace (byte 2 m + i)) 7 (λ i. fourBits i (byte (3 + i / 2) m)) n t e f g
 
+-- and the one after it
+abbrev next : List ℕ → ℕ → ℕ → List ℕ
+next t p b = set (set t (p + 8) (bitOr (getD t (p + 8) 0) 1)) (p + 15) b
+
 -- two of them, as one turn stores them
 turn : (t m now : List ℕ) (j p : ℕ) → now ≡ after t m (2 * j) → p ≡ zonePlace (byte 2 m + 2 * j)
-    → set (set (heard now p (getD m (2 + j) 0 % 16)) (p + 8) (bitOr (getD (heard now p (getD m (2 + j) 0 % 16)) (p + 8) 0) 1)) (p + 15) (getD m (2 + j) 0 / 16)
-    ≡ after t m (2 * (j + 1))
+    → next (heard now p (getD m (2 + j) 0 % 16)) p (getD m (2 + j) 0 / 16) ≡ after t m (2 * (j + 1))
 turn t m now j p e f =
     let first = one t m now (2 * j) p (getD m (2 + j) 0 % 16) e f (low j m) in
-    let next : p + 8 ≡ zonePlace (byte 2 m + (2 * j + 1)) = omega arith in
+    let place : p + 8 ≡ zonePlace (byte 2 m + (2 * j + 1)) = omega arith in
     let last : p + 15 ≡ p + 8 + 7 = omega arith in
     let twice : 2 * j + 1 + 1 ≡ 2 * (j + 1) = omega arith in
     let half = heard now p (getD m (2 + j) 0 % 16) in
     ap (λ (i : ℕ). set (set half (p + 8) (bitOr (getD half (p + 8) 0) 1)) i (getD m (2 + j) 0 / 16)) last
-    ∙ one t m half (2 * j + 1) (p + 8) (getD m (2 + j) 0 / 16) first next (high j m)
+    ∙ one t m half (2 * j + 1) (p + 8) (getD m (2 + j) 0 / 16) first place (high j m)
     ∙ ap (after t m) twice
 
 abbrev Inv-loop : tie.InvT-loop
-Inv-loop table₀ message first j₀ table j = (table ≡ after table₀ message (2 * j)) × (j ≤ 8) × (length table ≡ tableBytes)
+Inv-loop table₀ message first j₀ table j =
+    (table ≡ after table₀ message (2 * j)) × (j ≤ 8) × (length table ≡ tableBytes)
 
 abbrev μ-loop : tie.MeasureT-loop
 μ-loop table₀ message first j₀ table j = 8 - j
@@ -123,7 +129,8 @@ loop-less c = omega arith
 loop-again : tie.Need-loop-again Inv-loop μ-loop
 loop-again c = let at = c .before .before .before .before .before in
     let a = at .before .before .before .before .args in (
-      turn (a .table .now) (a .message .now) (at .loop .table) (at .loop .j) _ (at .loop .inv .0) (c .before .before .before .zone-place .ensures),
+      turn (a .table .now) (a .message .now) (at .loop .table) (at .loop .j) _ (at .loop .inv .0)
+          (c .before .before .before .zone-place .ensures),
       omega arith,
       simp length-set (at .loop .inv .2),
     )

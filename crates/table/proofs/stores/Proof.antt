@@ -1,4 +1,5 @@
--- `table::stores` meets its contract: a storable message and a whole table are what `put` asks, and all else leaves the table. Assumes nothing.
+-- `table::stores` meets its contract: a storable message and a whole table are what `put` asks, and all else leaves the
+-- table. Assumes nothing.
 use mathlib.Core.Path.{_≡_, refl, sym, ap, _∙_}
 use mathlib.Core.Bool.{true, false, _&&_}
 use lib.ListN.{length}
@@ -23,19 +24,20 @@ whole c =
     let t = start (c .before) .args .table .now in
     sym (whole-is t) ∙ eq-eqb (tableRefusal t) 0 (sym (c .before .refusal .ensures) ∙ c .if1 .left)
 
-refused : (c : tie.Then1) → (isTable (start (c .before) .args .table .now) && storable (start (c .before) .args .message .now)) ≡ false
+refused : (c : tie.Then1)
+    → (isTable (start (c .before) .args .table .now) && storable (start (c .before) .args .message .now)) ≡ false
 refused c =
     let t = start (c .before) .args .table .now in
-    let no : isTable t ≡ false = sym (whole-is t) ∙ ne-eqb (tableRefusal t) 0 (λ z. c .if1 .taken (c .before .refusal .ensures ∙ z)) in
-    rw no
+    rw (sym (whole-is t) ∙ ne-eqb (tableRefusal t) 0 (λ z. c .if1 .taken (c .before .refusal .ensures ∙ z)))
 
 -- what is asked of the message, of all of it
-said : (c : tie.After-is-stored) → c .is-stored .result ≡ storable (start (c .before .before .before) .args .message .now)
+said : (c : tie.After-is-stored)
+    → c .is-stored .result ≡ storable (start (c .before .before .before) .args .message .now)
 said c = c .is-stored .ensures ∙ ap storable (take-length (start (c .before .before .before) .args .message .now))
 
 both : (c : tie.After-is-stored)
-    → (isTable (start (c .before .before .before) .args .table .now) && storable (start (c .before .before .before) .args .message .now))
-    ≡ c .is-stored .result
+    → let s = start (c .before .before .before) in
+    (isTable (s .args .table .now) && storable (s .args .message .now)) ≡ c .is-stored .result
 both c = rw (whole (c .before .before)) (sym (said c))
 
 refusal-requires : tie.Need-refusal-requires

@@ -10,7 +10,8 @@ refusal-requires : tie.Need-refusal-requires
 refusal-requires c κs = search needs
 
 part-of-requires : tie.Need-part-of-requires
-part-of-requires c κs = λ z. let h = asked-whole (c .before .before .args .table .now) (sym (c .refusal .ensures) ∙ z) in omega arith
+part-of-requires c κs =
+    λ z. let h = asked-whole (c .before .before .args .table .now) (sym (c .refusal .ensures) ∙ z) in omega arith
 
 returns : tie.Need-returns
 returns c = answer-by (c .before .refusal .ensures) (c .part-of .ensures)

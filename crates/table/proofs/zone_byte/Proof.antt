@@ -1,4 +1,5 @@
--- `table::zone_byte` meets its contract: a table that is not refused has the length that its records ask. Assumes nothing.
+-- `table::zone_byte` meets its contract: a table that is not refused has the length that its records ask. Assumes
+-- nothing.
 use native.Mathlib.Omega.{arith}
 use mathlib.Core.Path.{sym, _∙_}
 use borrow.Author.Needs.{needs}
@@ -21,11 +22,15 @@ add-place c = search needs
 shared-slice-read-t10 : tie.Need-shared-slice-read-t10
 shared-slice-read-t10 c =
     let start = c .before .before .before .before .before in
-    let h = asked-whole (start .args .table .now) (sym (c .before .before .before .refusal .ensures) ∙ c .before .before .if1 .left) in
+    let h =
+    asked-whole (start .args .table .now)
+    (sym (c .before .before .before .refusal .ensures) ∙ c .before .before .if1 .left) in
     omega arith
 
 returns-2 : tie.Need-returns-2
-returns-2 c = rw (c .before .zone-place .ensures) (answer-given (c .before .before .before .refusal .ensures) (c .before .before .if1 .left))
+returns-2 c =
+    rw (c .before .zone-place .ensures)
+    (answer-given (c .before .before .before .refusal .ensures) (c .before .before .if1 .left))
 
 pub zone-byte-spec : {M : Type 1} → statement M
 zone-byte-spec =

@@ -16,10 +16,13 @@ add-part-of : tie.Need-add-part-of
 add-part-of c = search needs
 
 part-of-requires : tie.Need-part-of-requires
-part-of-requires c κs = λ z. let h = asked-whole (c .before .before .before .args .table .now) (sym (c .before .refusal .ensures) ∙ z) in omega arith
+part-of-requires c κs =
+    λ z. let h =
+    asked-whole (c .before .before .before .args .table .now) (sym (c .before .refusal .ensures) ∙ z) in omega arith
 
 returns : tie.Need-returns
-returns c = answer-by (c .before .before .refusal .ensures) (rw (c .before .zone-place .ensures) at (c .part-of .ensures))
+returns c =
+    answer-by (c .before .before .refusal .ensures) (rw (c .before .zone-place .ensures) at (c .part-of .ensures))
 
 pub zone-part-spec : {M : Type 1} → statement M
 zone-part-spec =
