@@ -20,8 +20,8 @@ use Rattle.standard.specs.Table.{tableBytes, tableAfter}
 use Rattle.standard.proofs.Replies.{reply-none}
 use Rattle.reader.specs.declared.Reader.{Reader}
 use Rattle.reader.specs.Read.{Given, readOf, Gives, notSound, lentRead, Lent}
-use Rattle.reader.proofs.Arrays.{lent-read, lent-none}
-use Rattle.reader.proofs.Handing.{saidFor, one-verdict}
+use Rattle.reader.proofs.State.Arrays.{lent-read, lent-none}
+use Rattle.reader.proofs.State.Handing.{saidFor, one-verdict}
 use Rattle.host.specs.Hear.{replyTo, heardBy, Hears}
 
 -- ---- what a call hears

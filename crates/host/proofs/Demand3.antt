@@ -18,8 +18,8 @@ use Rattle.reader.specs.declared.Reader.{Reader}
 use Rattle.reader.specs.Read.{freshReader, Given, readOf}
 use Rattle.reader.specs.Calls.{joined, handedBefore, callsOf, drive, Calls}
 use Rattle.reader.specs.Calls.{finished as no-call, call as one-call}
-use Rattle.reader.proofs.Arrays.{Whole, whole-read}
-use Rattle.reader.proofs.Demand3.{reads-are-parts, any-caller}
+use Rattle.reader.proofs.State.Arrays.{Whole, whole-read}
+use Rattle.reader.proofs.Stream.Demand3.{reads-are-parts, any-caller}
 use Rattle.host.specs.Hear.{heardBy, replyTo}
 use Rattle.host.proofs.Answers.{heard-read, one-said}
 use Rattle.host.specs.Hearings.{Heard, heardAs, streamHeard, alsoHeard, hearingsOf, hearAll, Hearings, finished, call}

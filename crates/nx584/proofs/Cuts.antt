@@ -19,9 +19,9 @@ use Rattle.reader.specs.declared.Reader.{Reader}
 use Rattle.reader.specs.Read.{freshReader, soundReader, readOf}
 use Rattle.reader.specs.Calls.{joined, handedBefore, callsOf, drive, Calls}
 use Rattle.reader.specs.Calls.{finished as no-call, call as one-call}
-use Rattle.reader.proofs.Arrays.{sound-read}
-use Rattle.reader.proofs.Handing.{saidFor, one-verdict, sound-verdict}
-use Rattle.reader.proofs.Demand3.{reads-are-parts, any-caller}
+use Rattle.reader.proofs.State.Arrays.{sound-read}
+use Rattle.reader.proofs.State.Handing.{saidFor, one-verdict, sound-verdict}
+use Rattle.reader.proofs.Stream.Demand3.{reads-are-parts, any-caller}
 use Rattle.host.specs.Hear.{replyTo}
 use Rattle.host.specs.Hearings.{Heard, heardAs, streamHeard, alsoHeard}
 use Rattle.host.proofs.Answers.{one-said}

@@ -20,8 +20,8 @@ use Rattle.reader.specs.declared.Mode.the-variants.{Skipping}
 use Rattle.reader.specs.Step.{State}
 use Rattle.reader.specs.Read.{freshReader, readOf}
 use Rattle.reader.specs.Calls.{fresh, Uses}
-use Rattle.reader.proofs.Parts.{run, after, run-append, run-parts}
-use Rattle.reader.proofs.Used.{used-rule, used-unique}
+use Rattle.reader.proofs.Stream.Parts.{run, after, run-append, run-parts}
+use Rattle.reader.proofs.Stream.Used.{used-rule, used-unique}
 use Rattle.writer.proofs.RoundTrip.{FrameReads, frame-reads, write-then-read-one}
 
 neither : (a b : Bool) → (a || b) ≡ false → a ≡ false

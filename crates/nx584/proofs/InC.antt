@@ -19,10 +19,10 @@ use Rattle.standard.specs.Table.{tableBytes, tableAfter, appliedTo}
 use Rattle.standard.proofs.Messages.{both-true}
 use Rattle.reader.specs.declared.Reader.{Reader}
 use Rattle.reader.specs.Read.{Given, soundReader, readOf, Gives}
-use Rattle.reader.proofs.Soundness.{sound-held}
-use Rattle.reader.proofs.Arrays.{sound-read}
-use Rattle.reader.proofs.Short.{Short, read-short}
-use Rattle.reader.proofs.Handing.{saidFor, one-verdict}
+use Rattle.reader.proofs.State.Soundness.{sound-held}
+use Rattle.reader.proofs.State.Arrays.{sound-read}
+use Rattle.reader.proofs.State.Short.{Short, read-short}
+use Rattle.reader.proofs.State.Handing.{saidFor, one-verdict}
 use Rattle.host.specs.Hear.{replyTo}
 use Rattle.nx584.specs.declared.CReader.{CReader}
 use Rattle.nx584.specs.declared.CReading.{CReading}

@@ -15,7 +15,7 @@ use Rattle.reader.specs.declared.Stepped.{Stepped}
 use Rattle.reader.specs.declared.Reading.{Reading}
 use Rattle.reader.specs.declared.Scanned.{Scanned}
 use Rattle.reader.specs.Read.{Given, readOf, Gives, Reads, Steps}
-use Rattle.reader.proofs.Handing.{saidFor, one-verdict, handed-from-verdict}
+use Rattle.reader.proofs.State.Handing.{saidFor, one-verdict, handed-from-verdict}
 use Rattle.reader.proofs.Reader.fresh.Kinds as fresh-kinds
 use Rattle.reader.proofs.Reader.fresh.Reads as fresh
 use Rattle.reader.proofs.Reader.sound.Kinds as sound-kinds

@@ -21,9 +21,9 @@ use Rattle.standard.proofs.Words.{flatMap-append}
 use Rattle.reader.specs.declared.Reader.{Reader}
 use Rattle.reader.specs.Read.{freshReader, stateOf, readOf}
 use Rattle.reader.specs.Calls.{Reached, fresh, read, Uses}
-use Rattle.reader.proofs.Parts.{run}
-use Rattle.reader.proofs.Arrays.{Whole}
-use Rattle.reader.proofs.Used.{met, used-rule}
+use Rattle.reader.proofs.Stream.Parts.{run}
+use Rattle.reader.proofs.State.Arrays.{Whole}
+use Rattle.reader.proofs.Stream.Used.{met, used-rule}
 use Rattle.host.specs.Hear.{replyTo, heardBy, Hears}
 use Rattle.host.proofs.Answers.{heard-read}
 use Rattle.host.proofs.Demand3.{after-append, after-length}

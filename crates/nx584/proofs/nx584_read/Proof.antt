@@ -8,7 +8,7 @@ use lib.ListN.{length, length-take}
 use Rattle.standard.specs.Messages.{longest}
 use Rattle.reader.specs.declared.Reader.{Reader}
 use Rattle.reader.specs.Read.{readOf, Reads, Lent}
-use Rattle.reader.proofs.Arrays.{lent-is-read}
+use Rattle.reader.proofs.State.Arrays.{lent-is-read}
 use Rattle.nx584.specs.declared.CReader.{CReader}
 use Rattle.nx584.specs.Boundary.{readerFor, cReader, cReading, lengthSaid, numbersSaid, soundC}
 use Rattle.nx584.proofs.InC.{c-sound, read-took, read-refused, took-fits, took-c, length-said, said-c}

@@ -3,7 +3,7 @@ use borrow.Author.Tests.{eq-eqb, ne-eqb}
 use borrow.Author.Needs.{needs}
 use Rattle.standard.specs.declared.Framing.the-variants.{Binary}
 use Rattle.reader.specs.declared.Mode.the-variants.{Open}
-use Rattle.reader.proofs.CodeSteps.{at-start, no-start}
+use Rattle.reader.proofs.Functions.CodeSteps.{at-start, no-start}
 use Rattle.reader.proofs.binary.Statement.{statement}
 use Rattle.reader.proofs.binary.Tie as tie
 

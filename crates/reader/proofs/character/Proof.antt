@@ -12,8 +12,9 @@ use Rattle.standard.specs.Framing.{valueOf}
 use Rattle.reader.specs.declared.Mode.the-variants.{Open}
 use Rattle.reader.specs.Step.{takesDigit}
 use Rattle.reader.specs.Decide.{stepIn}
-use Rattle.reader.proofs.CodeSteps.{at-start, no-start, at-stop, no-stop, stop-bound, digit-due, is-digit}
-use Rattle.reader.proofs.CodeSteps.{is-none}
+use Rattle.reader.proofs.Functions.CodeSteps.{at-start, no-start, at-stop, no-stop, stop-bound, digit-due}
+use Rattle.reader.proofs.Functions.CodeSteps.{is-digit}
+use Rattle.reader.proofs.Functions.CodeSteps.{is-none}
 use Rattle.reader.proofs.character.Statement.{statement}
 use Rattle.reader.proofs.character.Tie as tie
 

@@ -1,7 +1,7 @@
 -- `reader::escaped` meets its contract: a start is looked for first. Assumes nothing.
 use borrow.Author.Needs.{needs}
 use Rattle.reader.specs.declared.Mode.the-variants.{Escape}
-use Rattle.reader.proofs.CodeSteps.{at-start, no-start}
+use Rattle.reader.proofs.Functions.CodeSteps.{at-start, no-start}
 use Rattle.reader.proofs.escaped.Statement.{statement}
 use Rattle.reader.proofs.escaped.Tie as tie
 

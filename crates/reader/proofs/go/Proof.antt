@@ -11,11 +11,12 @@ use Rattle.standard.specs.Messages.{longest}
 use Rattle.frames.specs.Judging.{judgedFrame, saidOf}
 use Rattle.reader.specs.declared.Reader.{Reader}
 use Rattle.reader.specs.Decide.{TakesIn}
-use Rattle.reader.proofs.Soundness.{reader-fits, sound-held}
-use Rattle.reader.proofs.Arrays.{Whole}
-use Rattle.reader.proofs.CodeLoop.{first-held, SoFar, Turn, storedBy, stored-kept, stored-same, room}
-use Rattle.reader.proofs.CodeLoop.{whole-after, goes-on, reads-all, reads-number, reads-judged, skipped-on}
-use Rattle.reader.proofs.CodeLoop.{takes-on}
+use Rattle.reader.proofs.State.Soundness.{reader-fits, sound-held}
+use Rattle.reader.proofs.State.Arrays.{Whole}
+use Rattle.reader.proofs.Functions.CodeLoop.{first-held, SoFar, Turn, storedBy, stored-kept, stored-same, room}
+use Rattle.reader.proofs.Functions.CodeLoop.{whole-after, goes-on, reads-all, reads-number, reads-judged}
+use Rattle.reader.proofs.Functions.CodeLoop.{skipped-on}
+use Rattle.reader.proofs.Functions.CodeLoop.{takes-on}
 use Rattle.reader.proofs.go.Statement.{statement}
 use Rattle.reader.proofs.go.Tie as tie
 

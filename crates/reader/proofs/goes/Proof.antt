@@ -1,6 +1,6 @@
 -- `reader::goes` meets its contract: as many bytes are held as were. Assumes nothing.
 use mathlib.Core.Path.{refl, sym}
-use Rattle.reader.proofs.CodeSteps.{all-held}
+use Rattle.reader.proofs.Functions.CodeSteps.{all-held}
 use Rattle.reader.proofs.goes.Statement.{statement}
 use Rattle.reader.proofs.goes.Tie as tie
 

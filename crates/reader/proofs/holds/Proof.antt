@@ -5,8 +5,8 @@ use mathlib.Core.Path.{_≡_, refl, sym}
 use mathlib.Core.List.{[], _∷_, _++_}
 use lib.ListN.{length}
 use borrow.Author.Needs.{needs}
-use Rattle.reader.proofs.Frames.{length-snoc}
-use Rattle.reader.proofs.CodeSteps.{all-held}
+use Rattle.reader.proofs.Part.Frames.{length-snoc}
+use Rattle.reader.proofs.Functions.CodeSteps.{all-held}
 use Rattle.reader.proofs.holds.Statement.{statement}
 use Rattle.reader.proofs.holds.Tie as tie
 

@@ -1,7 +1,7 @@
 -- `reader::low_digit` meets its contract, digit or none. Assumes nothing.
 use borrow.Author.Needs.{needs}
 use Rattle.reader.specs.declared.Mode.the-variants.{Digit}
-use Rattle.reader.proofs.CodeSteps.{at-start, no-start, is-digit, is-none}
+use Rattle.reader.proofs.Functions.CodeSteps.{at-start, no-start, is-digit, is-none}
 use Rattle.reader.proofs.low_digit.Statement.{statement}
 use Rattle.reader.proofs.low_digit.Tie as tie
 

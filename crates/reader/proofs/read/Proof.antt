@@ -1,7 +1,7 @@
 -- `reader::read` meets its contract: it lends its reader's array. Assumes nothing.
 use native.Mathlib.Omega.{arith}
 use borrow.Author.Needs.{needs}
-use Rattle.reader.proofs.Arrays.{lent-is-read}
+use Rattle.reader.proofs.State.Arrays.{lent-is-read}
 use Rattle.reader.proofs.read.Statement.{statement}
 use Rattle.reader.proofs.read.Tie as tie
 

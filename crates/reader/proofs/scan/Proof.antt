@@ -4,7 +4,7 @@ use mathlib.Core.Path.{sym, _∙_}
 use borrow.Author.Tests.{not-true, not-false}
 use borrow.Author.Needs.{needs}
 use Rattle.reader.specs.declared.Reader.{Reader}
-use Rattle.reader.proofs.CodeLoop.{lent-reads, lent-other, lent-unsound}
+use Rattle.reader.proofs.Functions.CodeLoop.{lent-reads, lent-other, lent-unsound}
 use Rattle.reader.proofs.scan.Statement.{statement}
 use Rattle.reader.proofs.scan.Tie as tie
 

@@ -2,7 +2,7 @@
 use mathlib.Core.Path.{sym, _∙_}
 use borrow.Author.Needs.{needs}
 use Rattle.reader.specs.declared.Mode.the-variants.{Skipping}
-use Rattle.reader.proofs.CodeSteps.{at-start, no-start}
+use Rattle.reader.proofs.Functions.CodeSteps.{at-start, no-start}
 use Rattle.reader.proofs.skipping.Statement.{statement}
 use Rattle.reader.proofs.skipping.Tie as tie
 

@@ -4,7 +4,8 @@ use native.Mathlib.Omega.{arith}
 use mathlib.Core.Path.{sym, _∙_}
 use lib.ListN.{length}
 use borrow.Author.Needs.{needs}
-use Rattle.reader.proofs.CodeSteps.{takes-length, takes-none, takes-ascii, takes-more, takes-last, last-bound}
+use Rattle.reader.proofs.Functions.CodeSteps.{takes-length, takes-none, takes-ascii, takes-more, takes-last}
+use Rattle.reader.proofs.Functions.CodeSteps.{last-bound}
 use Rattle.reader.proofs.takes.Statement.{statement}
 use Rattle.reader.proofs.takes.Tie as tie
 

@@ -12,7 +12,7 @@ use Rattle.standard.specs.Table.{tableAfter}
 use Rattle.standard.proofs.Put.{put-none, put-then, put-length}
 use Rattle.reader.specs.declared.Reader.{Reader}
 use Rattle.reader.specs.declared.Mode.{Mode}
-use Rattle.reader.proofs.Arrays.{Whole}
+use Rattle.reader.proofs.State.Arrays.{Whole}
 use Rattle.host.proofs.Demand3.{after-length}
 use Rattle.text.proofs.Turns.{linesOf, HeardTo, heard-none, array-whole, Turn, turn}
 use Rattle.text.proofs.put_verdicts.Statement.{statement}

@@ -22,7 +22,7 @@ use Rattle.reader.specs.declared.Mode.{Mode}
 use Rattle.reader.specs.declared.Mode.the-variants.{Open}
 use Rattle.reader.specs.Step.{framingOf, goes, ends, takes, takesDigit, takesCharacter, goesOn, stepOf}
 use Rattle.reader.specs.Decide.{stepIn, opensIn}
-use Rattle.reader.proofs.Frames.{length-snoc}
+use Rattle.reader.proofs.Part.Frames.{length-snoc}
 
 -- all are held, where their number is
 pub all-held : (bytes : List ℕ) (n : ℕ) → length bytes ≡ n → cond (eqb n 0) [] bytes ≡ bytes

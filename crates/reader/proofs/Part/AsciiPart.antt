@@ -19,10 +19,11 @@ use Rattle.standard.proofs.Decided.{whole-front}
 use Rattle.reader.specs.declared.Mode.{Mode}
 use Rattle.reader.specs.declared.Mode.the-variants.{Open, Digit}
 use Rattle.reader.specs.Step.{framingOf, goes, ends, takes, takesDigit, goesOn}
-use Rattle.reader.proofs.Soundness.{Few, Fits, few-held}
-use Rattle.reader.proofs.Frames.{length-snoc, by-test, frame-bad, frame-short, frame-full, frame-end}
-use Rattle.reader.proofs.Frames.{whole-stands, whole-sheet}
-use Rattle.reader.proofs.Judging.{andPending, spent, endFrom, spelt, leftOf, isOpen, On, Over, Does, on, over}
+use Rattle.reader.proofs.State.Soundness.{Few, Fits, few-held}
+use Rattle.reader.proofs.Part.Frames.{length-snoc, by-test, frame-bad, frame-short, frame-full, frame-end}
+use Rattle.reader.proofs.Part.Frames.{whole-stands, whole-sheet}
+use Rattle.reader.proofs.Part.Judging.{andPending, spent, endFrom, spelt, leftOf, isOpen, On, Over, Does, on}
+use Rattle.reader.proofs.Part.Judging.{over}
 
 -- ---- where the stop is due
 

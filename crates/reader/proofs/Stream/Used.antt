@@ -18,12 +18,12 @@ use Rattle.reader.specs.declared.Reader.{Reader}
 use Rattle.reader.specs.Step.{State, framingOf, isOpen}
 use Rattle.reader.specs.Read.{scanOf, stateOf, soundReader, freshReader, Given, readOf}
 use Rattle.reader.specs.Calls.{Reached, fresh, read, streamTo, Meets, Uses}
-use Rattle.reader.proofs.Soundness.{reader-fits}
-use Rattle.reader.proofs.Arrays.{read-sound, state-read, sound-read, Whole, whole-fresh, whole-read}
-use Rattle.reader.proofs.Handing.{sound-verdict}
-use Rattle.reader.proofs.Parts.{run, after, run-append, run-parts}
-use Rattle.reader.proofs.Scans.{Scanned, scanned}
-use Rattle.reader.proofs.Leads.{Leads, leads, lead-on}
+use Rattle.reader.proofs.State.Soundness.{reader-fits}
+use Rattle.reader.proofs.State.Arrays.{read-sound, state-read, sound-read, Whole, whole-fresh, whole-read}
+use Rattle.reader.proofs.State.Handing.{sound-verdict}
+use Rattle.reader.proofs.Stream.Parts.{run, after, run-append, run-parts}
+use Rattle.reader.proofs.Stream.Scans.{Scanned, scanned}
+use Rattle.reader.proofs.Stream.Leads.{Leads, leads, lead-on}
 
 -- a reader is met with its array whole, sound, and as far in the stream as it has used it
 pub record Met (f : Framing) (stream : List ℕ) (r : Reader) : Type 0 where

@@ -18,11 +18,11 @@ use Rattle.reader.specs.declared.Reader.{Reader}
 use Rattle.reader.specs.Step.{framingOf}
 use Rattle.reader.specs.Read.{Read, scanOf, stateOf, soundReader, freshReader, readOf}
 use Rattle.reader.specs.Calls.{joined, handedBefore, callsOf, drive, Calls, finished, call, streamTo}
-use Rattle.reader.proofs.Soundness.{reader-fits}
-use Rattle.reader.proofs.Arrays.{read-sound, state-read, sound-read}
-use Rattle.reader.proofs.Parts.{run, run-append, run-parts}
-use Rattle.reader.proofs.Scans.{Scanned, scanned}
-use Rattle.reader.proofs.Leads.{lead-on}
+use Rattle.reader.proofs.State.Soundness.{reader-fits}
+use Rattle.reader.proofs.State.Arrays.{read-sound, state-read, sound-read}
+use Rattle.reader.proofs.Stream.Parts.{run, run-append, run-parts}
+use Rattle.reader.proofs.Stream.Scans.{Scanned, scanned}
+use Rattle.reader.proofs.Stream.Leads.{lead-on}
 
 -- ---- one call
 

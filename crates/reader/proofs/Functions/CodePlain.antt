@@ -20,8 +20,8 @@ use Rattle.reader.specs.declared.Mode.{Mode}
 use Rattle.reader.specs.declared.Mode.the-variants.{Open, Digit}
 use Rattle.reader.specs.Step.{State, framingOf, goes, takes, takesDigit, takesCharacter, stepOf}
 use Rattle.reader.specs.Read.{Read, readOn, scanOf}
-use Rattle.reader.proofs.Frames.{length-snoc}
-use Rattle.reader.proofs.CodeSteps.{no-start, takes-length, takes-ascii, takes-more, digit-due}
+use Rattle.reader.proofs.Part.Frames.{length-snoc}
+use Rattle.reader.proofs.Functions.CodeSteps.{no-start, takes-length, takes-ascii, takes-more, digit-due}
 
 -- a read, with n bytes used before it
 abbrev pub usedMore : ℕ → Read → Read

@@ -21,9 +21,9 @@ use Rattle.reader.specs.declared.Reader.{Reader}
 use Rattle.reader.specs.Step.{State, soundWith, stepOf}
 use Rattle.reader.specs.Read.{Read, scanOf, stateOf, soundReader, freshReader, readerAfter, Given, notSound}
 use Rattle.reader.specs.Read.{readFrom, readOf, Gives, Reads, lentRead, Lent}
-use Rattle.reader.proofs.Soundness.{Fits, reader-fits, fits-sound, sound-held}
-use Rattle.reader.proofs.Judging.{isOpen}
-use Rattle.reader.proofs.Kept.{Quiet, keeps-step, keeps-scan}
+use Rattle.reader.proofs.State.Soundness.{Fits, reader-fits, fits-sound, sound-held}
+use Rattle.reader.proofs.Part.Judging.{isOpen}
+use Rattle.reader.proofs.State.Kept.{Quiet, keeps-step, keeps-scan}
 
 -- ---- bytes laid over the beginning of an array
 

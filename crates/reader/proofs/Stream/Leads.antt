@@ -19,9 +19,9 @@ use Rattle.reader.specs.declared.Mode.{Mode}
 use Rattle.reader.specs.declared.Mode.the-variants.{Skipping, Open, Escape, Digit}
 use Rattle.reader.specs.Step.{State, Step, framingOf, isOpen, goes, takes, stepOf}
 use Rattle.reader.specs.Calls.{leadTo}
-use Rattle.reader.proofs.Soundness.{Few, Fits}
-use Rattle.reader.proofs.Frames.{length-snoc}
-use Rattle.reader.proofs.Parts.{run, after, run-append, run-parts}
+use Rattle.reader.proofs.State.Soundness.{Few, Fits}
+use Rattle.reader.proofs.Part.Frames.{length-snoc}
+use Rattle.reader.proofs.Stream.Parts.{run, after, run-append, run-parts}
 
 abbrev at : Mode → List ℕ → State
 at m held = record { mode = m; held = held }

@@ -7,8 +7,8 @@ use lib.ListN.{length, take}
 use Rattle.standard.specs.Judge.{Handed}
 use Rattle.reader.specs.Step.{State, stepOf}
 use Rattle.reader.specs.Read.{Read, readOn, scanOf}
-use Rattle.reader.proofs.Kept.{Hands, keeps-step}
-use Rattle.reader.proofs.Parts.{run, after}
+use Rattle.reader.proofs.State.Kept.{Hands, keeps-step}
+use Rattle.reader.proofs.Stream.Parts.{run, after}
 
 -- what a read of bs says of the stream stepped through
 pub record Scanned (s : State) (bs : List ℕ) (r : Read) : Type 0 where

@@ -16,10 +16,10 @@ use Rattle.reader.specs.declared.Mode.{Mode}
 use Rattle.reader.specs.declared.Mode.the-variants.{Skipping}
 use Rattle.reader.specs.Step.{State, Step, framingOf, isOpen, cutShort, opens, goesOn, stepOf}
 use Rattle.reader.specs.Read.{Read, readOn, scanOf}
-use Rattle.reader.proofs.Soundness.{Fits, few-held}
-use Rattle.reader.proofs.Frames.{by-test, Stands}
-use Rattle.reader.proofs.Judging.{Does, skips, on, over}
-use Rattle.reader.proofs.OneByte.{does, cut-is}
+use Rattle.reader.proofs.State.Soundness.{Fits, few-held}
+use Rattle.reader.proofs.Part.Frames.{by-test, Stands}
+use Rattle.reader.proofs.Part.Judging.{Does, skips, on, over}
+use Rattle.reader.proofs.Part.OneByte.{does, cut-is}
 
 -- at most one verdict, whose message stands in the bytes kept
 abbrev pub Hands : List Handed → List ℕ → Type 0

@@ -13,8 +13,8 @@ use Rattle.standard.specs.Messages.{longest}
 use Rattle.standard.specs.Judge.{Handed, verdictFor, verdictsIn, handedIn}
 use Rattle.reader.specs.declared.Reader.{Reader}
 use Rattle.reader.specs.Read.{Given, scanOf, stateOf, soundReader, freshReader, readOf}
-use Rattle.reader.proofs.Kept.{Hands, keeps-scan}
-use Rattle.reader.proofs.Arrays.{laid-front, read-sound, read-unsound}
+use Rattle.reader.proofs.State.Kept.{Hands, keeps-scan}
+use Rattle.reader.proofs.State.Arrays.{laid-front, read-sound, read-unsound}
 
 -- what stands in an array with these bytes laid over it
 hands-in : (said : Said) (hs : List Handed) (bytes kept : List ℕ) → Hands hs kept → verdictsIn said ≡ map verdictFor hs

@@ -16,8 +16,8 @@ use Rattle.reader.specs.declared.Mode.{Mode}
 use Rattle.reader.specs.declared.Mode.the-variants.{Skipping, Open, Escape, Digit}
 use Rattle.reader.specs.Step.{Step, framingOf, goes, ends}
 pub use Rattle.reader.specs.Step.{isOpen}
-use Rattle.reader.proofs.Soundness.{Fits}
-use Rattle.reader.proofs.Frames.{Stands}
+use Rattle.reader.proofs.State.Soundness.{Fits}
+use Rattle.reader.proofs.Part.Frames.{Stands}
 
 -- binary: what the bytes still to come give back, after the bytes held
 abbrev pub given : List ℕ → Recovered → Judged

@@ -12,11 +12,11 @@ use Rattle.standard.specs.Judge.{handing, unfinished, judgeAfter}
 use Rattle.reader.specs.declared.Mode.{Mode}
 use Rattle.reader.specs.declared.Mode.the-variants.{Skipping, Open, Escape, Digit}
 use Rattle.reader.specs.Step.{State, Step, framingOf, cutShort, opens, goesOn, stepOf}
-use Rattle.reader.proofs.Soundness.{Fits}
-use Rattle.reader.proofs.Frames.{by-test}
-use Rattle.reader.proofs.Judging.{leftOf, isOpen, openHands, Does, skips, on, over}
-use Rattle.reader.proofs.BinaryPart.{binary, escaped, binary-end}
-use Rattle.reader.proofs.AsciiPart.{ascii, digit, ascii-end, digit-end, ascii-new}
+use Rattle.reader.proofs.State.Soundness.{Fits}
+use Rattle.reader.proofs.Part.Frames.{by-test}
+use Rattle.reader.proofs.Part.Judging.{leftOf, isOpen, openHands, Does, skips, on, over}
+use Rattle.reader.proofs.Part.BinaryPart.{binary, escaped, binary-end}
+use Rattle.reader.proofs.Part.AsciiPart.{ascii, digit, ascii-end, digit-end, ascii-new}
 
 -- every mode
 pub does : (m : Mode) (held : List ℕ) (b : ℕ) → Does m held b (goesOn m held b)

@@ -11,10 +11,10 @@ use Rattle.standard.specs.Judge.{Handed}
 use Rattle.standard.specs.Stream.{upToStart, partsOf, handedOf}
 use Rattle.reader.specs.declared.Mode.the-variants.{Skipping}
 use Rattle.reader.specs.Step.{State, framingOf, stepOf}
-use Rattle.reader.proofs.Soundness.{Fits}
-use Rattle.reader.proofs.Judging.{openHands}
-use Rattle.reader.proofs.Kept.{fits-step}
-use Rattle.reader.proofs.OneByte.{framing-step, hands-on, hands-cut, hands-none, hands-new}
+use Rattle.reader.proofs.State.Soundness.{Fits}
+use Rattle.reader.proofs.Part.Judging.{openHands}
+use Rattle.reader.proofs.State.Kept.{fits-step}
+use Rattle.reader.proofs.Part.OneByte.{framing-step, hands-on, hands-cut, hands-none, hands-new}
 
 -- what a stream stepped through hands out, and the state after it
 abbrev pub run : State → List ℕ → List Handed

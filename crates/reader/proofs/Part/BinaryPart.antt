@@ -18,10 +18,10 @@ use Rattle.standard.proofs.Decided.{whole-front}
 use Rattle.reader.specs.declared.Mode.{Mode}
 use Rattle.reader.specs.declared.Mode.the-variants.{Open, Escape}
 use Rattle.reader.specs.Step.{framingOf, goes, ends, takes, goesOn}
-use Rattle.reader.proofs.Soundness.{Few, Fits}
-use Rattle.reader.proofs.Frames.{length-snoc, by-test, frame-bad, frame-short, frame-full, whole-stands}
-use Rattle.reader.proofs.Frames.{whole-sheet}
-use Rattle.reader.proofs.Judging.{given, leftOf, isOpen, Does, on, over}
+use Rattle.reader.proofs.State.Soundness.{Few, Fits}
+use Rattle.reader.proofs.Part.Frames.{length-snoc, by-test, frame-bad, frame-short, frame-full, whole-stands}
+use Rattle.reader.proofs.Part.Frames.{whole-sheet}
+use Rattle.reader.proofs.Part.Judging.{given, leftOf, isOpen, Does, on, over}
 
 -- the byte b gives back x: the length, a byte of the message or a sum, or the last sum
 takes-binary : (m : Mode) (held : List ℕ) (b x : ℕ) → isOpen m ≡ true → framingOf m ≡ Binary

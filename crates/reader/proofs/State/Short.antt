@@ -20,10 +20,10 @@ use Rattle.reader.specs.declared.Mode.the-variants.{Skipping, Open, Esca
 use Rattle.reader.specs.declared.Reader.{Reader}
 use Rattle.reader.specs.Step.{State, Step, framingOf, takes, takesDigit, takesCharacter, goesOn, opens, stepOf}
 use Rattle.reader.specs.Read.{Read, readOn, scanOf, stateOf, soundReader, readOf}
-use Rattle.reader.proofs.Soundness.{Fits, reader-fits}
-use Rattle.reader.proofs.Frames.{by-test}
-use Rattle.reader.proofs.Kept.{fits-step}
-use Rattle.reader.proofs.Arrays.{read-sound}
+use Rattle.reader.proofs.State.Soundness.{Fits, reader-fits}
+use Rattle.reader.proofs.Part.Frames.{by-test}
+use Rattle.reader.proofs.State.Kept.{fits-step}
+use Rattle.reader.proofs.State.Arrays.{read-sound}
 
 abbrev pub Short : List Handed → Type 0
 Short [] = Unit {0}
