@@ -1,5 +1,5 @@
--- Laws of the overview, for every table: how its counts are summed and bounded, that no unheard zone enters a share, and that the paper's
--- values settle an answer. Assumes nothing.
+-- Laws of the overview, for every table: how its counts are summed and bounded, that no unheard zone enters a share,
+-- and that the paper's values settle an answer. Assumes nothing.
 use Prim.Native.Nat.{ℕ, zero, suc, _+_, _-_, _*_, _≤_, _<_, min}
 use native.Mathlib.Nat.{eq-or-lt-of-le}
 use native.Mathlib.Omega.{arith}
@@ -17,7 +17,8 @@ use Rattle.standard.specs.declared.Overview.{Overview}
 use Rattle.standard.specs.Words.{upTo, total}
 use Rattle.standard.specs.Table.{tableBytes, heardZone, shortFaulted}
 use Rattle.standard.specs.Questions.{tableRefusal}
-use Rattle.standard.specs.Overview.{heardOne, faultedOne, zonesOf, groupNumbers, heardOf, faultedOf, shareNumber, counted, allSeen, seenOf, groupValues, overviewValues}
+use Rattle.standard.specs.Overview.{heardOne, faultedOne, zonesOf, groupNumbers, heardOf, faultedOf, shareNumber}
+use Rattle.standard.specs.Overview.{counted, allSeen, seenOf, groupValues, overviewValues}
 use Rattle.standard.specs.Overview.{Counted, Seen}
 pub use Rattle.standard.specs.Overview.{Bounded, Alike}
 use Rattle.standard.proofs.Words.{length-upTo, map-append, map-same, map-map, total-le, total-mono}
@@ -26,7 +27,8 @@ use Rattle.standard.proofs.Questions.{whole-asked}
 -- ---- counts
 
 -- a sum over the zones of group i + 1, which on the line are 16 * i and the fifteen after it
-over-zones : (f : ℕ → ℕ) (i : ℕ) → total (map (λ z. f (z - 1)) (zonesOf (suc i))) ≡ total (map (λ j. f (16 * i + j)) (upTo 16))
+over-zones : (f : ℕ → ℕ) (i : ℕ)
+    → total (map (λ z. f (z - 1)) (zonesOf (suc i))) ≡ total (map (λ j. f (16 * i + j)) (upTo 16))
 over-zones f i =
     ap total
     (map-map (λ j. 16 * suc i - 15 + j) (λ z. f (z - 1)) (upTo 16)
@@ -54,10 +56,12 @@ bounded h f most each number = record {
 -- of a group at most 16 are heard, and of those some faulted
 pub group-bounded : (t : List ℕ) (k : ℕ) → Bounded (heardOf t k) (faultedOf t k) 16
 unfolding heardOf faultedOf
-group-bounded t k = bounded (heardOne t) (faultedOne t) 1 (λ z. record { among = omega arith; few = omega arith }) (λ j. 16 * k - 15 + j)
+group-bounded t k =
+    bounded (heardOne t) (faultedOne t) 1 (λ z. record { among = omega arith; few = omega arith }) (λ j. 16 * k - 15 + j)
 
 -- of the site at most 256
-pub site-bounded : (t : List ℕ) → Bounded (total (map (heardOf t) groupNumbers)) (total (map (faultedOf t) groupNumbers)) 256
+pub site-bounded : (t : List ℕ)
+    → Bounded (total (map (heardOf t) groupNumbers)) (total (map (faultedOf t) groupNumbers)) 256
 site-bounded t = bounded (heardOf t) (faultedOf t) 16 (group-bounded t) suc
 
 -- ---- "or refuses with 11"
@@ -94,18 +98,25 @@ same-min zero b c d small e same = omega arith
 same-min (suc n) b c d small e same = let s = same (omega arith) in omega arith
 
 module _ (t u : List ℕ) (alike : Alike t u) where
-  same-faulted : (zone : ℕ) → zone < 256 → min (heardZone t zone) (shortFaulted t zone) ≡ min (heardZone u zone) (shortFaulted u zone)
+  same-faulted : (zone : ℕ) → zone < 256
+      → min (heardZone t zone) (shortFaulted t zone) ≡ min (heardZone u zone) (shortFaulted u zone)
   same-faulted zone b =
-      same-min (heardZone t zone) (heardZone u zone) (shortFaulted t zone) (shortFaulted u zone) (omega arith) (alike .heard zone b)
+      same-min (heardZone t zone) (heardZone u zone) (shortFaulted t zone) (shortFaulted u zone) (omega arith)
+      (alike .heard zone b)
       (alike .faulted zone b)
 
   same-group : (i : ℕ) → i < 16 → countedOf t (suc i) ≡ countedOf u (suc i)
   same-group i b =
       ap₂ counted
-      (heard-zones t i ∙ ap total (same-below _ _ 16 (λ j c. alike .heard (16 * i + j) (omega arith))) ∙ sym (heard-zones u i))
-      (faulted-zones t i ∙ ap total (same-below _ _ 16 (λ j c. same-faulted (16 * i + j) (omega arith))) ∙ sym (faulted-zones u i))
+      (heard-zones t i
+      ∙ ap total (same-below _ _ 16 (λ j c. alike .heard (16 * i + j) (omega arith)))
+      ∙ sym (heard-zones u i))
+      (faulted-zones t i
+      ∙ ap total (same-below _ _ 16 (λ j c. same-faulted (16 * i + j) (omega arith)))
+      ∙ sym (faulted-zones u i))
 
-  same-groups : {A : Type 0} (f : Counted → A) → map (λ i. f (countedOf t (suc i))) (upTo 16) ≡ map (λ i. f (countedOf u (suc i))) (upTo 16)
+  same-groups : {A : Type 0} (f : Counted → A)
+      → map (λ i. f (countedOf t (suc i))) (upTo 16) ≡ map (λ i. f (countedOf u (suc i))) (upTo 16)
   same-groups f = same-below _ _ 16 (λ i b. ap f (same-group i b))
 
   -- every group and the site are the same
@@ -132,7 +143,8 @@ nth f (suc n) i d h =
     (λ b. List·getD-append (map f (upTo n)) (f n ∷ []) d i (omega arith) ∙ nth f n i d b) (eq-or-lt-of-le below))
 
 -- the group at a place has the counts of its number, one more, and the share made from those
-pub group-told : (t : List ℕ) (o : Overview) → overviewValues o ≡ seenOf t → length t ≡ tableBytes → (i : ℕ) → i < 16 → (d : Group)
+pub group-told : (t : List ℕ) (o : Overview) → overviewValues o ≡ seenOf t → length t ≡ tableBytes → (i : ℕ) → i < 16
+    → (d : Group)
     → groupValues (getD (o .groups) i d) ≡ counted (heardOf t (suc i)) (faultedOf t (suc i))
 group-told t o told whole i b d =
     let groups = simp map-map at (ap (λ (s : Seen). s .groups) (told ∙ seen-whole t whole)) in

@@ -1,6 +1,6 @@
--- Laws of a share: a division of two counts is their fraction rounded once, 0 exactly where none is faulted, 1 exactly where all that are
--- heard are, between the two, and a number. Rounding is monotone, so each follows from a fraction that antt rounds. What is said of the
--- fraction holds in either format. Assumes nothing.
+-- Laws of a share: a division of two counts is their fraction rounded once, 0 exactly where none is faulted, 1 exactly
+-- where all that are heard are, between the two, and a number. Rounding is monotone, so each follows from a fraction
+-- that antt rounds. What is said of the fraction holds in either format. Assumes nothing.
 use Prim.Native.Nat.{ℕ, zero, suc, _*_, _^_, _≤_, _<_}
 use native.Mathlib.Nat.{mul-assoc, mul-comm, mul-left-comm, mul-one, mul-pos, lt-irrefl, eq-or-lt-of-le}
 use native.Mathlib.Omega.{arith}
@@ -38,7 +38,8 @@ cross x de dd a b y p q =
     rw (p', q') (simp (mul-assoc, mul-comm, mul-left-comm))
 
 -- of two floats whose values are whole
-div-values : (g : Format) (x y : Float) (a b : ℕ) → 0 < b → HasValue x false a 1 → HasValue y false b 1 → div g x y ≡ round g false a b
+div-values : (g : Format) (x y : Float) (a b : ℕ) → 0 < b → HasValue x false a 1 → HasValue y false b 1
+    → div g x y ≡ round g false a b
 unfolding div
 div-values g nan y a b h p q = absurd p
 div-values g (inf s) y a b h p q = absurd p
@@ -87,7 +88,10 @@ module _ (g : Format) (h f : ℕ) (some-heard : 0 < h) (b : Bounded h f 256) whe
   zero-iff : (round g false f h ≡ float-zero) ↔ (f ≡ 0)
   zero-iff = (
     λ e. go e f refl,
-    λ e. ap (λ (n : ℕ). round g false n h) e ∙ round-same g false 0 h 0 1 some-heard (omega arith) (omega arith) ∙ zero-is g,
+    λ e.
+        ap (λ (n : ℕ). round g false n h) e
+        ∙ round-same g false 0 h 0 1 some-heard (omega arith) (omega arith)
+        ∙ zero-is g,
   )
     where
       go : round g false f h ≡ float-zero → (n : ℕ) → f ≡ n → f ≡ 0
@@ -95,12 +99,16 @@ module _ (g : Format) (h f : ℕ) (some-heard : 0 < h) (b : Bounded h f 256) whe
       go e (suc n) q =
           absurd
           (above-zero g
-          (subst (λ (x : Float). T (le (round g false 1 256) x)) e (round-mono g 1 256 f h (omega arith) some-heard (omega arith))))
+          (subst (λ (x : Float). T (le (round g false 1 256) x)) e
+          (round-mono g 1 256 f h (omega arith) some-heard (omega arith))))
 
   one-iff : (round g false f h ≡ float-one) ↔ (f ≡ h)
   one-iff = (
     λ e. go e (eq-or-lt-of-le (b .among)),
-    λ e. ap (λ (n : ℕ). round g false n h) e ∙ round-same g false h h 1 1 some-heard (omega arith) (omega arith) ∙ one-is g,
+    λ e.
+        ap (λ (n : ℕ). round g false n h) e
+        ∙ round-same g false h h 1 1 some-heard (omega arith) (omega arith)
+        ∙ one-is g,
   )
     where
       go : round g false f h ≡ float-one → (f ≡ h) ⊎ (f < h) → f ≡ h
@@ -108,7 +116,8 @@ module _ (g : Format) (h f : ℕ) (some-heard : 0 < h) (b : Bounded h f 256) whe
       go e (inr q) =
           absurd
           (below-one g
-          (subst (λ (x : Float). T (le x (round g false 255 256))) e (round-mono g f h 255 256 some-heard (omega arith) (omega arith))))
+          (subst (λ (x : Float). T (le x (round g false 255 256))) e
+          (round-mono g f h 255 256 some-heard (omega arith) (omega arith))))
 
   at-most-one : T (le (round g false f h) float-one)
   at-most-one = rw (← one-is g) (round-mono g f h 1 1 some-heard (omega arith) (omega arith))
@@ -145,9 +154,15 @@ share-fair zero f x b e = let z : _≡_ {A = ℕ} 0 1 = cc in absurd (omega arit
 share-fair (suc h) f x b e = subst (Fair (suc h) f) (cc) (fraction-fair binary64 (suc h) f (omega arith) b)
 
 -- of every group of every table, and of the site
-pub group-fair : (t : List ℕ) (k : ℕ) (x : Float) → shareOf (heardOf t k) (faultedOf t k) ≡ some x → Fair (heardOf t k) (faultedOf t k) x
-group-fair t k x e = let b = group-bounded t k in share-fair (heardOf t k) (faultedOf t k) x (record { among = b .among; few = omega arith }) e
+pub group-fair : (t : List ℕ) (k : ℕ) (x : Float) → shareOf (heardOf t k) (faultedOf t k) ≡ some x
+    → Fair (heardOf t k) (faultedOf t k) x
+group-fair t k x e =
+    let b = group-bounded t k in
+    share-fair (heardOf t k) (faultedOf t k) x (record { among = b .among; few = omega arith }) e
 
 pub site-fair : (t : List ℕ) (x : Float)
-    → (let h = total (map (heardOf t) groupNumbers) in let f = total (map (faultedOf t) groupNumbers) in shareOf h f ≡ some x → Fair h f x)
-site-fair t x e = share-fair (total (map (heardOf t) groupNumbers)) (total (map (faultedOf t) groupNumbers)) x (site-bounded t) e
+    → (let h = total (map (heardOf t) groupNumbers) in
+    let f = total (map (faultedOf t) groupNumbers) in
+    shareOf h f ≡ some x → Fair h f x)
+site-fair t x e =
+    share-fair (total (map (heardOf t) groupNumbers)) (total (map (faultedOf t) groupNumbers)) x (site-bounded t) e

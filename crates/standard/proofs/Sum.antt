@@ -29,7 +29,8 @@ prefixes-more (a ∷ bs) b =
 pub sum1-more : (bs : List ℕ) (b : ℕ) → sum1 (bs ++ (b ∷ [])) ≡ (sum1 bs + b) % 255
 unfolding total
 sum1-more bs b =
-    ap (λ n. n % 255) (total-append bs (b ∷ []) ∙ ap (λ n. total bs + n) (add-zero b)) ∙ sym (mod-add-mod (total bs) 255 b)
+    ap (λ n. n % 255) (total-append bs (b ∷ []) ∙ ap (λ n. total bs + n) (add-zero b))
+    ∙ sym (mod-add-mod (total bs) 255 b)
 
 pub sum2-more : (bs : List ℕ) (b : ℕ) → sum2 (bs ++ (b ∷ [])) ≡ (sum2 bs + (sum1 bs + b) % 255) % 255
 unfolding total
@@ -53,7 +54,8 @@ sums-more bs b = let x = sum1-more bs b in let y = sum2-more bs b in cc
 
 -- the turn of a loop over the bytes
 pub sums-turn : (m : List ℕ) (i : ℕ) → i < length m → stepped (sumsOf (take i m)) (getD m i 0) ≡ sumsOf (take (i + 1) m)
-sums-turn m i h = sym (ap sumsOf (ap (λ n. take n m) (add-one i) ∙ take-suc m i 0 h) ∙ sums-more (take i m) (getD m i 0))
+sums-turn m i h =
+    sym (ap sumsOf (ap (λ n. take n m) (add-one i) ∙ take-suc m i 0 h) ∙ sums-more (take i m) (getD m i 0))
 
 -- "A sum is 0 to 254"
 pub record Small (s : Sums) : Type 0 where
@@ -68,7 +70,8 @@ sums-small bs = record { one = omega arith; two = omega arith }
 pub never-ff : (m : List ℕ) → sumIsFF m ≡ false
 never-ff m =
     let small = sums-small (length m ∷ m) in
-    rw (ne-eqb (sumsOf (length m ∷ m) .one) 255 (λ e. omega arith), ne-eqb (sumsOf (length m ∷ m) .two) 255 (λ e. omega arith))
+    let s = sumsOf (length m ∷ m) in
+    rw (ne-eqb (s .one) 255 (λ e. omega arith), ne-eqb (s .two) 255 (λ e. omega arith))
 
 -- where the sums of two lists are alike, they stay so with the same bytes after both
 sums-alike : (p q bs : List ℕ) → sumsOf p ≡ sumsOf q → sumsOf (p ++ bs) ≡ sumsOf (q ++ bs)

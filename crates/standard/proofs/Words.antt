@@ -20,7 +20,8 @@ map-append f (x ∷ a) b = ap (λ l. f x ∷ l) (map-append f a b)
 pub flatMap-append : {A B : Type 0} (f : A → List B) (a b : List A) → flatMap f (a ++ b) ≡ flatMap f a ++ flatMap f b
 unfolding flatMap
 flatMap-append f [] b = refl
-flatMap-append f (x ∷ a) b = ap (λ l. f x ++ l) (flatMap-append f a b) ∙ sym (append-assoc (f x) (flatMap f a) (flatMap f b))
+flatMap-append f (x ∷ a) b =
+    ap (λ l. f x ++ l) (flatMap-append f a b) ∙ sym (append-assoc (f x) (flatMap f a) (flatMap f b))
 
 pub length-upTo : (n : ℕ) → length (upTo n) ≡ n
 unfolding upTo

@@ -1,5 +1,5 @@
--- Document 01, "Verdicts and refusals": the verdict on a part, from its whole bytes. A part is a start byte and what follows it, up to the
--- next start byte or the end. Assumes nothing.
+-- Document 01, "Verdicts and refusals": the verdict on a part, from its whole bytes. A part is a start byte and what
+-- follows it, up to the next start byte or the end. Assumes nothing.
 use Prim.Native.Nat.{ℕ, _+_, _*_}
 use mathlib.Core.Bool.{Bool, cond, not, _&&_, _||_}
 use mathlib.Core.Option.{Option, none, some}
@@ -16,7 +16,8 @@ use Rattle.standard.specs.Sums.{sumsOf}
 use Rattle.standard.specs.Messages.{lengthOk, messageTests}
 use Rattle.standard.specs.Framing.{recovered}
 
--- what is handed out with a verdict: its number, the type byte (0 unless it carries one), the message (empty unless the verdict is 0)
+-- what is handed out with a verdict: its number, the type byte (0 unless it carries one), the message (empty unless the
+-- verdict is 0)
 pub record Handed : Type 0 where
   pub verdict : ℕ
   pub typeByte : ℕ
@@ -44,7 +45,8 @@ plain verdict = decided (handing verdict [])
 -- "sums differ": of a whole frame, its length byte L and those after it
 abbrev pub sumsDiffer : ℕ → List ℕ → Bool
 sumsDiffer L rest =
-    not (eqb (getD rest L 0) (sumsOf (L ∷ take L rest) .one) && eqb (getD rest (L + 1) 0) (sumsOf (L ∷ take L rest) .two))
+    let sums = sumsOf (L ∷ take L rest) in
+    not (eqb (getD rest L 0) (sums .one) && eqb (getD rest (L + 1) 0) (sums .two))
 
 -- "the order is 3, 5, 6, 7, 8"; `stop` is the test for 3, where there is one
 unfoldable pub wholeOf : List (Bool × ℕ) → ℕ → List ℕ → Handed
@@ -65,10 +67,12 @@ abbrev pub stuck : Option ℕ → Judged
 stuck none = unfinished
 stuck (some verdict) = plain verdict
 
--- of the recovered bytes: the first is the length L, and 4 "at the length byte"; L message bytes and two sums follow, and then the end decides
+-- of the recovered bytes: the first is the length L, and 4 "at the length byte"; L message bytes and two sums follow,
+-- and then the end decides
 abbrev pub frameJudged : List ℕ → Option ℕ → (ℕ → List ℕ → Judged) → Judged
 frameJudged [] fault end = stuck fault
-frameJudged (L ∷ rest) fault end = cond (lengthOk L) (cond (ltb (length rest) (L + 2)) (stuck fault) (end L rest)) (plain 4)
+frameJudged (L ∷ rest) fault end =
+    cond (lengthOk L) (cond (ltb (length rest) (L + 2)) (stuck fault) (end L rest)) (plain 4)
 
 -- the judgement of the bytes after a start byte
 abbrev pub judgeAfter : Framing → List ℕ → Judged
@@ -92,4 +96,5 @@ verdictsIn (Gave v) = v ∷ []
 -- the paper's number and values of each case; a message stands in the reader's bytes after the length byte
 abbrev pub handedIn : Said → List ℕ → List Handed
 handedIn Silent bytes = []
-handedIn (Gave v) bytes = record { verdict = v .number; typeByte = v .«type_byte»; message = take (v .length) (drop 1 bytes) } ∷ []
+handedIn (Gave v) bytes =
+    record { verdict = v .number; typeByte = v .«type_byte»; message = take (v .length) (drop 1 bytes) } ∷ []

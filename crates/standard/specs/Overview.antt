@@ -103,7 +103,8 @@ float-zero = fin false 0 (pos 0)
 abbrev pub float-one : Float
 float-one = fin false 1 (pos 0)
 
--- the share x of these counts: 0 exactly when none is faulted, 1 exactly when all heard are, else between them, and a number
+-- the share x of these counts: 0 exactly when none is faulted, 1 exactly when all heard are, else between them, and a
+-- number
 pub record Fair (heard faulted : ℕ) (x : Float) : Type 0 where
   pub none-faulted : (x ≡ float-zero) ↔ (faulted ≡ 0)
   pub all-faulted : (x ≡ float-one) ↔ (faulted ≡ heard)

@@ -14,16 +14,16 @@ replyNumber Acknowledge = 0x1D
 replyNumber NegativeAcknowledge = 0x1E
 replyNumber Rejected = 0x1F
 
--- "Good 1Ch to 1Fh: nothing, even with the flag set. Good 20h to 3Fh: 1Fh, as a host serves no requests. Every other good
--- message: 1Dh if its flag is set, else nothing."
+-- "Good 1Ch to 1Fh: nothing, even with the flag set. Good 20h to 3Fh: 1Fh, as a host serves no requests. Every other
+-- good message: 1Dh if its flag is set, else nothing."
 abbrev pub goodReply : ℕ → ℕ
 goodReply t =
     cond (within 0x1C (numberOf t) 0x1F) 0
     (cond (within 0x20 (numberOf t) 0x3F) 0x1F
     (cond (flagOf t) 0x1D 0))
 
--- "Verdicts 1 to 5 and 7: Negative Acknowledge 1Eh. Verdicts 6 and 8: Rejected 1Fh, flag set or not." Verdict 0: as above,
--- for a number that is one of the 41. "Refusals 9 to 12, and any number not in the table, get no reply."
+-- "Verdicts 1 to 5 and 7: Negative Acknowledge 1Eh. Verdicts 6 and 8: Rejected 1Fh, flag set or not." Verdict 0: as
+-- above, for a number that is one of the 41. "Refusals 9 to 12, and any number not in the table, get no reply."
 unfoldable pub replyOf : ℕ → ℕ → ℕ
 replyOf verdict t =
     cond (within 1 verdict 5 || eqb verdict 7) 0x1E

@@ -37,7 +37,8 @@ firstOf (test ∷ tests) = cond (test .0) (test .1) (firstOf tests)
 abbrev pub laid : List ℕ → ℕ → List ℕ → List ℕ
 laid buffer place part = take place buffer ++ part ++ drop (place + length part) buffer
 
--- what a function that puts bytes one after another has done: the part is stored from a place on, and `next` is the place after it
+-- what a function that puts bytes one after another has done: the part is stored from a place on, and `next` is the
+-- place after it
 pub record Put (buffer : List ℕ) (place : ℕ) (part : List ℕ) (after : List ℕ) (next : ℕ) : Type 0 where
   pub bytes : after ≡ sets buffer place part
   pub end : next ≡ place + length part

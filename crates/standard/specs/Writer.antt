@@ -37,6 +37,7 @@ unfoldable pub afterWrite : List ℕ → Framing → List ℕ → ℕ → List �
 afterWrite m f out place = cond (eqb (writeRefusal m f out place) 0) (laid out place (frameOf f m)) out
 
 -- what `write` promises: its answer, and every byte of the buffer
-pub record Wrote (m : List ℕ) (f : Framing) (out : List ℕ) (place : ℕ) (answer : Written) (after : List ℕ) : Type 0 where
+pub record Wrote (m : List ℕ) (f : Framing) (out : List ℕ) (place : ℕ) (answer : Written) (after : List ℕ)
+    : Type 0 where
   pub says : answer ≡ writtenOf m f out place
   pub leaves : after ≡ afterWrite m f out place

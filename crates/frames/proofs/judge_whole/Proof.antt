@@ -25,7 +25,8 @@ two : (c : tie.Else2)
     c .before .before .before .before .before .before .before .args .frame .now in getD f
     (end f + 1) 0 ≡ summed f .two
 two c =
-    rw (c .before .before .before .before .before .before .before .pre .0, ← c .before .before .before .before .sums-of .ensures) (c .if2 .left)
+    let summed = c .before .before .before .before in
+    rw (summed .before .before .before .pre .0, ← summed .sums-of .ensures) (c .if2 .left)
 
 -- the number is the check of the message
 number : (c : tie.After-check) → let s = c .before .before .before .before .before .before .before .before .before in
