@@ -22,7 +22,8 @@ use Rattle.reader.proofs.State.Arrays.{Whole, whole-read}
 use Rattle.reader.proofs.Stream.Demand3.{reads-are-parts, any-caller}
 use Rattle.host.specs.Hear.{heardBy, replyTo}
 use Rattle.host.proofs.Answers.{heard-read, one-said}
-use Rattle.host.specs.Hearings.{Heard, heardAs, streamHeard, alsoHeard, hearingsOf, hearAll, Hearings, finished, call}
+use Rattle.host.specs.Hearings.{Heard, heardAs, streamHeard, alsoHeard, hearingsOf, hearAll, Hearings, finished}
+use Rattle.host.specs.Hearings.{call}
 
 -- ---- the table after a list
 

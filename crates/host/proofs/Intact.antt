@@ -19,7 +19,8 @@ use Rattle.standard.proofs.Stream.{handed-amid}
 use Rattle.standard.proofs.Decided.{handed-amid-part}
 use Rattle.reader.specs.Read.{freshReader}
 use Rattle.reader.specs.Calls.{joined}
-use Rattle.host.specs.Hearings.{Heard, sends, replyFor, heardAs, streamHeard, thenHeard, alsoHeard, hearAll, Hearings}
+use Rattle.host.specs.Hearings.{Heard, sends, replyFor, heardAs, streamHeard, thenHeard, alsoHeard, hearAll}
+use Rattle.host.specs.Hearings.{Hearings}
 use Rattle.host.specs.Hearings.{heardBefore, heardAmid}
 use Rattle.host.proofs.Demand3.{after-append, demand3, demand3-any-caller}
 

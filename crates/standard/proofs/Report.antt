@@ -16,7 +16,8 @@ use Rattle.standard.specs.declared.Framing.the-variants.{Binary, Ascii}
 use Rattle.standard.specs.Words.{upTo, total, firstOf}
 use Rattle.standard.specs.Messages.{lengthOk, messageTests}
 use Rattle.standard.specs.Framing.{startOf, unstuff, recovered, digitsOf, pairs}
-use Rattle.standard.specs.Judge.{Handed, handing, Judged, decided, unfinished, carriesType, sumsDiffer, wholeOf, atStop, ended, stuck, plain, frameJudged, judge}
+use Rattle.standard.specs.Judge.{Handed, handing, Judged, decided, unfinished, carriesType, sumsDiffer, wholeOf}
+use Rattle.standard.specs.Judge.{atStop, ended, stuck, plain, frameJudged, judge}
 use Rattle.standard.specs.Stream.{upToStart, partsOf, partHands, partsHand, handedOf}
 use Rattle.standard.specs.Replies.{replyOf}
 use Rattle.standard.specs.Table.{fresh, tableAfter}
@@ -24,7 +25,8 @@ use Rattle.standard.specs.Overview.{heardOf, faultedOf, groupNumbers}
 use Rattle.standard.proofs.Words.{flatMap-append}
 use Rattle.standard.proofs.Messages.{both-true}
 use Rattle.standard.proofs.Judge.{unstuff-fault}
-use Rattle.standard.specs.Report.{mostRead, decimal, typeText, replyText, lineWith, verdictLine, countsLine, groupLine, reportOn, reportOf, longestReport}
+use Rattle.standard.specs.Report.{mostRead, decimal, typeText, replyText, lineWith, verdictLine, countsLine}
+use Rattle.standard.specs.Report.{groupLine, reportOn, reportOf, longestReport}
 
 -- lines of which each has at most so many bytes
 flatMap-le : {A : Type 0} (f : A → List ℕ) (most : A → ℕ) → ((x : A) → length (f x) ≤ most x) → (l : List A)

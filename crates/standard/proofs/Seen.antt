@@ -57,7 +57,8 @@ bounded h f most each number = record {
 pub group-bounded : (t : List ℕ) (k : ℕ) → Bounded (heardOf t k) (faultedOf t k) 16
 unfolding heardOf faultedOf
 group-bounded t k =
-    bounded (heardOne t) (faultedOne t) 1 (λ z. record { among = omega arith; few = omega arith }) (λ j. 16 * k - 15 + j)
+    bounded (heardOne t) (faultedOne t) 1 (λ z. record { among = omega arith; few = omega arith })
+    (λ j. 16 * k - 15 + j)
 
 -- of the site at most 256
 pub site-bounded : (t : List ℕ)
