@@ -89,7 +89,7 @@ part-in-array-start c = search needs
 part-in-array-end : tie.Need-part-in-array-end
 part-in-array-end c =
     let h = few (c .before .before) in
-    let size : length (c .before .before .before .before .scan .last .1 .1 .0) ≡ 21 = search needs in
+    let size : length (c .before .before .before .before .scan .last .1 .1 .0) ≡ longest + 3 = search needs in
     omega arith
 
 in-array-requires : tie.Need-in-array-requires

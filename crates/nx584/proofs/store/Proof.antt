@@ -5,6 +5,7 @@ use lib.ListN.{length}
 use lib.Seq.{length-take-le}
 use borrow.Author.Tests.{eq-eqb, ne-eqb}
 use borrow.Author.Needs.{needs}
+use Rattle.standard.specs.Messages.{longest}
 use Rattle.nx584.proofs.store.Statement.{statement}
 use Rattle.nx584.proofs.store.Tie as tie
 
@@ -14,13 +15,13 @@ cast-n c = search needs
 array-share-prefix-message : tie.Need-array-share-prefix-message
 array-share-prefix-message c =
     let s = c .before .before .before .before .before .before in
-    let size : length (s .args .reading .message) ≡ 18 = search needs in
+    let size : length (s .args .reading .message) ≡ longest = search needs in
     omega (arith, s .pre)
 
 slice-aggregate-store : tie.Need-slice-aggregate-store
 slice-aggregate-store c =
     let s = c .before .before .before .before .before .before .before in
-    let size : length (s .args .reading .message) ≡ 18 = search needs in
+    let size : length (s .args .reading .message) ≡ longest = search needs in
     sym (length-take-le _ _ (omega (arith, s .pre)))
 
 store-requires : tie.Need-store-requires
