@@ -1,6 +1,5 @@
 -- The bytes of a frame that stand plainly on the line, and those that an open frame takes at once. That a reader which
--- steps through them comes to
--- the same is a law of the crate reader. Assumes nothing.
+-- steps through them comes to the same is a law of the crate reader. Assumes nothing.
 use Prim.Native.Nat.{ℕ, _+_, _-_, _*_}
 use mathlib.Core.Path.{_≡_}
 use mathlib.Core.Bool.{Bool, cond, _&&_, _||_}

@@ -1,7 +1,6 @@
 -- DEMAND 3 at the boundary, over what the calls of C answer: a reader that C hands back is the one that it was given,
--- and an answer's numbers tell
--- what was handed out; so a caller of `nx584_read` is one of `read`, and a caller of `nx584_hear` one of `hear`.
--- Assumes nothing.
+-- and an answer's numbers tell what was handed out; so a caller of `nx584_read` is one of `read`, and a caller of
+-- `nx584_hear` one of `hear`. Assumes nothing.
 use Prim.Native.Nat.{ℕ, zero, suc, _+_, _≤_}
 use native.Mathlib.Omega.{arith}
 use mathlib.Core.Path.{_≡_, refl, sym, ap, _∙_}

@@ -1,7 +1,6 @@
 -- Demand 2 over the reader's own `read`: a fresh reader on a written frame, whatever follows it, gives verdict 0 and
--- the message, and uses exactly
--- the frame's bytes. By the used-byte rule: the frame hands out its message, and no shorter beginning of it hands out
--- anything. Assumes nothing.
+-- the message, and uses exactly the frame's bytes. By the used-byte rule: the frame hands out its message, and no
+-- shorter beginning of it hands out anything. Assumes nothing.
 use Prim.Native.Nat.{ℕ, _+_, _<_}
 use native.Mathlib.Omega.{arith}
 use mathlib.Core.Path.{_≡_, refl, sym, ap, ap₂, _∙_}

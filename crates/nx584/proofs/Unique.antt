@@ -1,6 +1,5 @@
 -- Each exported function's contract settles its answer, and every byte of what it was lent: two answers that meet the
--- predicate that the contract
--- generates are equal. Assumes nothing.
+-- predicate that the contract generates are equal. Assumes nothing.
 use mathlib.Core.Path.{_≡_, sym, _∙_}
 use borrow.Fn.Kinds.{Dens, endedOf, resT}
 use contract.Lifetimes.{Lfts}

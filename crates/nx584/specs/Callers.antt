@@ -1,6 +1,5 @@
 -- Callers of `nx584_read` and `nx584_hear`, for demand 3: over what the calls answer in C's numbers, and nothing else.
--- A verdict of 255 hands out
--- nothing. Assumes nothing.
+-- A verdict of 255 hands out nothing. Assumes nothing.
 use Prim.Native.Nat.{ℕ, zero, suc, _+_}
 use mathlib.Core.Path.{_≡_}
 use mathlib.Core.Bool.{cond}

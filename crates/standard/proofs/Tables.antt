@@ -1,6 +1,5 @@
 -- A rule of a table, proved at all of its entries by one test that antt computes, one entry after the other; and so a
--- rule of every number
--- below a bound. Assumes nothing.
+-- rule of every number below a bound. Assumes nothing.
 use Prim.Native.Nat.{ℕ, zero, suc, _+_, _<_}
 use native.Mathlib.Nat.{add-zero, zero-add, add-suc, suc-add, le-of-suc-le-suc, not-suc-le-zero}
 use mathlib.Core.Path.{_≡_, refl, sym, subst, _∙_}

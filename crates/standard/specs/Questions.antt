@@ -1,6 +1,5 @@
 -- Document 01, "The table": the questions about a table, each answered by a number or by a part of the table. Zones and
--- partitions are counted
--- from 0, as in Table.antt. Assumes nothing.
+-- partitions are counted from 0, as in Table.antt. Assumes nothing.
 use Prim.Native.Nat.{ℕ, _+_}
 use mathlib.Core.Path.{_≡_}
 use mathlib.Core.Bool.{cond, not}

@@ -1,6 +1,5 @@
 -- Document 01, "The table": what a message writes, and the table afterwards. Zones and partitions are counted from 0
--- here, as on the line, so
--- zone 1 is 0. Assumes nothing.
+-- here, as on the line, so zone 1 is 0. Assumes nothing.
 use Prim.Native.Nat.{ℕ, suc, _+_, _*_, _/_, _%_, max}
 use mathlib.Core.Path.{_≡_}
 use mathlib.Core.Bool.{Bool, cond, not}

@@ -1,6 +1,5 @@
 -- Each public function's promise settles its answer, and every byte of what it was lent: two that meet the predicate
--- that its
--- contract generates are equal. Assumes nothing.
+-- that its contract generates are equal. Assumes nothing.
 use Prim.Native.Nat.{ℕ}
 use mathlib.Core.Path.{_≡_, sym, ap₂, _∙_}
 use borrow.Fn.Kinds.{Dens, endedOf, resT}

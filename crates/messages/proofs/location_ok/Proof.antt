@@ -1,6 +1,5 @@
 -- `messages::location_ok` meets its contract: each arm has its number, and with it the message's length and its rule.
--- That a mask says what
--- the rule says of single bits is computed for all 256 bytes. Assumes nothing.
+-- That a mask says what the rule says of single bits is computed for all 256 bytes. Assumes nothing.
 use Prim.Native.Nat.{ℕ, _<_}
 use native.Mathlib.Omega.{arith}
 use mathlib.Core.Path.{_≡_, sym, ap, _∙_}

@@ -1,6 +1,5 @@
 -- `view` meets its contract. The table's own number says whether it has its length. After `index` turns the groups so
--- far are stored and
--- the counts are their sums, each at most 16 a group. Assumes nothing.
+-- far are stored and the counts are their sums, each at most 16 a group. Assumes nothing.
 use borrow.Author.Needs.{needs}
 use Prim.Native.Nat.{ℕ, suc, _+_, _-_, _*_, _≤_, _<_}
 use native.Mathlib.Numerals.{add-one}

@@ -1,6 +1,5 @@
 -- A reader as code has it, with its array: after a read its state is the scan's, it is sound if it was, and the message
--- stands in it. For every
--- array; only that its size stays asks for the size. Assumes nothing.
+-- stands in it. For every array; only that its size stays asks for the size. Assumes nothing.
 use Prim.Native.Nat.{ℕ, zero, suc, _+_, _-_, _≤_}
 use native.Mathlib.Nat.{zero-add}
 use native.Mathlib.Omega.{arith}
