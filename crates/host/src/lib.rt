@@ -67,7 +67,7 @@ pub fn listen(
 ) -> Listened
     ensures { λ r. ⌜ Hears (record { mode = from; held = count; bytes = now (frame .entry) }) (now (table .entry)) (now (bytes .entry)) (record { mode = r .mode; held = r .held; bytes = now (frame .exit) }) (r .used) (r .said) (r .reply) (now (table .exit)) ⌝ }
 {
-    if table.len() != table::TABLE_BYTES {
+    if table::refusal(table) != 0 {
         return refused(from, count, 11);
     }
     let answer = reader::scan(from, count, frame, bytes);

@@ -447,7 +447,7 @@ pub extern "C" fn nx584_view(table: &[u8]) -> COverview
 pub extern "C" fn nx584_hear(reader: CReader, table: &mut [u8], bytes: &[u8]) -> CHearing
     ensures { λ r. ⌜ CHears reader (now (table .entry)) (now (bytes .entry)) r (now (table .exit)) ⌝ }
 {
-    if table.len() != table::TABLE_BYTES {
+    if table::refusal(table) != 0 {
         return with_reply(refused(reader, 11), 0);
     }
     let reading = nx584_read(reader, bytes);

@@ -1,9 +1,10 @@
 -- `host::listen` meets its contract: what `scan`, `store` and `reply` promise, put together by the laws of Answers.
 -- Assumes nothing.
 use native.Mathlib.Omega.{arith}
-use mathlib.Core.Path.{_≡_, refl}
+use mathlib.Core.Path.{_≡_, refl, sym, _∙_}
 use borrow.Author.Needs.{needs}
 use Rattle.standard.specs.Table.{tableAfter}
+use Rattle.standard.proofs.Questions.{asked-whole, whole-asked}
 use Rattle.reader.specs.declared.Reader.{Reader}
 use Rattle.reader.specs.Read.{lentRead}
 use Rattle.host.specs.Hear.{heardBy}
@@ -17,29 +18,38 @@ given s = record { mode = s .args .from; held = s .args .count; bytes = s .args 
 
 -- where the read begins, a call hears what it gives
 abbrev start : tie.After-scan → tie.Start
-start c = c .before .before .before .before .before .before
+start c = c .before .before .before .before .before .before .before .before
 
 heard : (c : tie.After-scan)
     → let s = start c in
     heardBy (given s) (s .args .table .now) (s .args .bytes .now) ≡ lentRead (given s) (s .args .bytes .now)
 heard c =
     let s = start c in
-    heard-scan (given s) (s .args .table .now) (s .args .bytes .now) (c .before .before .if1 .left)
+    let test = c .before .before in
+    heard-scan (given s) (s .args .table .now) (s .args .bytes .now)
+    (asked-whole _ (sym (test .before .refusal .ensures) ∙ test .if1 .left))
 
 -- the read whose verdict it is
 abbrev scanned : tie.After-said → tie.After-scan
 scanned c = c .before .before .before .before
 
+refusal-requires : tie.Need-refusal-requires
+refusal-requires c κs = search needs
+
 refused-requires : tie.Need-refused-requires
 refused-requires c κs = tt
+
+same-length : tie.Need-same-length
+same-length c = search needs
 
 returns : tie.Need-returns
 returns c =
     let test = c .before in
-    let s = test .before .before .before .before in
+    let s = test .before .before .before .before .before .before in
     rw (c .refused .ensures)
     (refused 11 (given s) (s .args .table .now) (s .args .bytes .now) (omega arith)
-    (no-table (given s) (s .args .table .now) (s .args .bytes .now) (test .if1 .taken)))
+    (no-table (given s) (s .args .table .now) (s .args .bytes .now)
+    (λ z. test .if1 .taken (test .before .refusal .ensures ∙ whole-asked _ z))))
 
 scan-requires : tie.Need-scan-requires
 scan-requires c κs = search needs
@@ -61,8 +71,11 @@ store-requires c κs =
 reply-requires : tie.Need-reply-requires
 reply-requires c κs = search needs
 
-same-length : tie.Need-same-length
-same-length c = search needs
+same-length-2 : tie.Need-same-length-2
+same-length-2 c = search needs
+
+same-length-3 : tie.Need-same-length-3
+same-length-3 c = search needs
 
 returns-2 : tie.Need-returns-2
 unfolding tableAfter
@@ -72,11 +85,11 @@ returns-2 c =
     hears (given s) (s .args .table .now) (s .args .bytes .now)
     (c .enum-told .given .1) (heard o) (o .scan .ensures) refl refl
 
-same-length-2 : tie.Need-same-length-2
-same-length-2 c = search needs
+same-length-4 : tie.Need-same-length-4
+same-length-4 c = search needs
 
-same-length-3 : tie.Need-same-length-3
-same-length-3 c = search needs
+same-length-5 : tie.Need-same-length-5
+same-length-5 c = search needs
 
 returns-3 : tie.Need-returns-3
 returns-3 c =
@@ -92,15 +105,18 @@ pub listen-spec : {M : Type 1} → statement M
 listen-spec =
     tie.close
     (tie.spec
+    refusal-requires
     refused-requires
+    same-length
     returns
     scan-requires
     enum-told
     enum-known-said
     store-requires
     reply-requires
-    same-length
-    returns-2
     same-length-2
     same-length-3
+    returns-2
+    same-length-4
+    same-length-5
     returns-3)
