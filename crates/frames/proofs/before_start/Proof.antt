@@ -20,8 +20,8 @@ shared-slice-read-if2 c = search needs
 
 returns : tie.Need-returns Inv-loop μ-loop
 returns c =
-    before-this (passed-none {bytes = c .before .before .before .before .args .bytes .now}) (omega arith)
-    (c .if2 .taken)
+    let call = c .before .before .before .before in
+    before-this (passed-none {bytes = call .args .bytes .now}) (omega arith) (c .if2 .taken)
 
 skip-blocks-requires : tie.Need-skip-blocks-requires Inv-loop μ-loop
 skip-blocks-requires c κs = search needs
@@ -33,7 +33,7 @@ shared-slice-read-if3 : tie.Need-shared-slice-read-if3 Inv-loop μ-loop
 shared-slice-read-if3 c = search needs
 
 returns-2 : tie.Need-returns-2 Inv-loop μ-loop
-returns-2 c = before-this (c .before .before .before .loop .inv) (omega arith) (c .if3 .taken)
+returns-2 c = let turn = c .before .before .before in before-this (turn .loop .inv) (omega arith) (c .if3 .taken)
 
 add-i : tie.Need-add-i Inv-loop μ-loop
 add-i c = search needs
@@ -42,7 +42,7 @@ loop-less : tie.Need-loop-less Inv-loop μ-loop
 loop-less c = search needs
 
 loop-again : tie.Need-loop-again Inv-loop μ-loop
-loop-again c = pass-byte (c .before .before .before .loop .inv) (omega arith) (c .if3 .left)
+loop-again c = let turn = c .before .before .before in pass-byte (turn .loop .inv) (omega arith) (c .if3 .left)
 
 returns-3 : tie.Need-returns-3 Inv-loop μ-loop
 returns-3 c = before-all (c .before .loop .inv) (omega arith)

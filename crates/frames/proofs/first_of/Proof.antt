@@ -9,12 +9,16 @@ use Rattle.frames.proofs.Plainly.{span-none, first-held, first-comes, n
 use Rattle.frames.proofs.first_of.Statement.{statement}
 use Rattle.frames.proofs.first_of.Tie as tie
 
+-- the call, from the byte that was held
+abbrev from-held : tie.After-shared-slice-known4 → tie.Start
+from-held c = c .before .before .before .before .before
+
 shared-slice-read-result : tie.Need-shared-slice-read-result
-shared-slice-read-result c = omega (arith, c .before .before .before .before .before .pre .1 .size)
+shared-slice-read-result c = omega (arith, from-held c .pre .1 .size)
 
 returns : tie.Need-returns
 returns c =
-    let s = c .before .before .before .before .before in
+    let s = from-held c in
     first-held (s .args .held) (s .args .frame .now) _ (c .before .if1 .taken) (omega (arith, s .pre .1 .size))
 
 plain-at-requires : tie.Need-plain-at-requires

@@ -21,14 +21,13 @@ same-length c = search needs
 
 returns : tie.Need-returns
 returns c =
-    let s = c .before .before .before .before .before .before .before .before .before .before .before in
+    let known = c .before .before .before .before in
+    let first = known .before .before in
+    let s = first .before .before .before .before .before in
     let a = s .args in
-    let first = c .before .before .before .before .before .before .first-of in
-    let known =
-    sym (c .before .before .before .before .before .length-ok .ensures)
-    ∙ c .before .before .before .before .if1 .taken in
-    run-grows (a .framing) (a .held) (a .frame .now) (a .bytes .now) (first .result) _ _ (s .pre .1)
-    (first .ensures) known (c .before .before .run .ensures)
+    run-grows (a .framing) (a .held) (a .frame .now) (a .bytes .now) (first .first-of .result) _ _ (s .pre .1)
+    (first .first-of .ensures) (sym (known .before .length-ok .ensures) ∙ known .if1 .taken)
+    (c .before .before .run .ensures)
 
 same-length-2 : tie.Need-same-length-2
 same-length-2 c = search needs

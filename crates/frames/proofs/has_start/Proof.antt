@@ -31,9 +31,10 @@ loop-less c = omega arith
 
 loop-again : tie.Need-loop-again Inv-loop μ-loop
 loop-again c =
-    let l = c .before .before .before .loop in
-    let x = c .before .before .before .before .args .start in
-    let part = c .before .before .before .before .args .part .now in
+    let turn = c .before .before .before in
+    let l = turn .loop in
+    let x = turn .before .args .start in
+    let part = turn .before .args .part .now in
     let inside : l .i < length part = omega arith in (
       omega arith,
       ⊎-elim (λ w. w .1 ∙ sym (found-here x part (l .i) inside (w .0 .taken)))

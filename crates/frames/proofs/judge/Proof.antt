@@ -21,9 +21,9 @@ plain-requires c κs = search needs
 
 returns-2 : tie.Need-returns-2
 returns-2 c =
-    let f = c .before .before .before .before .before .before .args .frame .now in
+    let some = c .before .before .before .before in
     c .plain .ensures
-    ∙ said-four f (c .before .before .before .before .if1 .left)
+    ∙ said-four (some .before .before .args .frame .now) (some .if1 .left)
     (sym (c .before .before .length-ok .ensures) ∙ not-true _ (c .before .if2 .taken))
 
 cast-if3 : tie.Need-cast-if3

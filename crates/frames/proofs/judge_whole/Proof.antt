@@ -14,32 +14,37 @@ use Rattle.frames.proofs.Judges.{end, summed, checked, wrong-one, wrong
 use Rattle.frames.proofs.judge_whole.Statement.{statement}
 use Rattle.frames.proofs.judge_whole.Tie as tie
 
+-- the call, from the sums and from past each test of them
+abbrev from-sums : tie.After-sums-of → tie.Start
+from-sums c = c .before .before .before
+
+abbrev past-one : tie.Else1 → tie.Start
+past-one c = from-sums (c .before .before)
+
+abbrev past-two : tie.Else2 → tie.Start
+past-two c = past-one (c .before .before)
+
 -- past the first sum
-one : (c : tie.Else1)
-    → let f = c .before .before .before .before .before .args .frame .now in getD f (end f) 0 ≡ summed f .one
-one c = rw (c .before .before .before .before .before .pre .0, ← c .before .before .sums-of .ensures) (c .if1 .left)
+one : (c : tie.Else1) → let f = past-one c .args .frame .now in getD f (end f) 0 ≡ summed f .one
+one c = rw (past-one c .pre .0, ← c .before .before .sums-of .ensures) (c .if1 .left)
 
 -- past the second
-two : (c : tie.Else2)
-    → let f =
-    c .before .before .before .before .before .before .before .args .frame .now in getD f
-    (end f + 1) 0 ≡ summed f .two
+two : (c : tie.Else2) → let f = past-two c .args .frame .now in getD f (end f + 1) 0 ≡ summed f .two
 two c =
-    let summed = c .before .before .before .before in
-    rw (summed .before .before .before .pre .0, ← summed .sums-of .ensures) (c .if2 .left)
+    let sums = c .before .before .before .before in
+    rw (past-two c .pre .0, ← sums .sums-of .ensures) (c .if2 .left)
 
 -- the number is the check of the message
-number : (c : tie.After-check) → let s = c .before .before .before .before .before .before .before .before .before in
-    c .check .result ≡ checked (s .args .frame .now)
-number c = rw (c .before .before .before .before .before .before .before .before .before .pre .0) (c .check .ensures)
+number : (c : tie.After-check) → c .check .result ≡ checked (past-two (c .before .before) .args .frame .now)
+number c = rw (past-two (c .before .before) .pre .0) (c .check .ensures)
 
 -- the verdict of a frame whose sums are right
 verdict : (c : tie.Else2)
-    → let s = c .before .before .before .before .before .before .before in let f = s .args .frame .now in
+    → let f = past-two c .args .frame .now in
     Gave (record { number = checked f; «type_byte» = getD f 1 0; length = cond (eqb (checked f) 0) (getD f 0 0) 0 })
     ≡ saidOf (judgedFrame f)
 verdict c =
-    let s = c .before .before .before .before .before .before .before in
+    let s = past-two c in
     let f = s .args .frame .now in
     ap Gave (by-message f (s .pre .1) (one (c .before .before)) (two c)) ∙ said-whole f (s .pre .1)
 
@@ -66,10 +71,11 @@ plain-requires c κs = search needs
 
 returns : tie.Need-returns
 returns c =
-    let s = c .before .before .before .before .before .before in
+    let sums = c .before .before .before in
+    let s = from-sums sums in
     let f = s .args .frame .now in
     let other : getD f (end f) 0 ≡ summed f .one → ⊥ =
-    rw (s .pre .0, ← c .before .before .before .sums-of .ensures) (c .before .if1 .taken) in
+    rw (s .pre .0, ← sums .sums-of .ensures) (c .before .if1 .taken) in
     c .plain .ensures ∙ ap Gave (wrong-one f (s .pre .1) other) ∙ said-whole f (s .pre .1)
 
 add-if2 : tie.Need-add-if2
@@ -83,11 +89,12 @@ plain-requires-2 c κs = search needs
 
 returns-2 : tie.Need-returns-2
 returns-2 c =
-    let s = c .before .before .before .before .before .before .before .before in
+    let first = c .before .before .before in
+    let s = past-one first in
     let f = s .args .frame .now in
     let other : getD f (end f + 1) 0 ≡ summed f .two → ⊥ =
-    rw (s .pre .0, ← c .before .before .before .before .before .sums-of .ensures) (c .before .if2 .taken) in
-    c .plain2 .ensures ∙ ap Gave (wrong-two f (s .pre .1) (one (c .before .before .before)) other)
+    rw (s .pre .0, ← first .before .before .sums-of .ensures) (c .before .if2 .taken) in
+    c .plain2 .ensures ∙ ap Gave (wrong-two f (s .pre .1) (one first) other)
     ∙ said-whole f (s .pre .1)
 
 sub-check : tie.Need-sub-check
@@ -107,18 +114,17 @@ shared-slice-read-t29 c = search needs
 
 returns-3 : tie.Need-returns-3
 returns-3 c =
-    let s = c .before .before .before .before .before .before .before .before .before .before .before in
+    let right = c .before .before .before .before in
+    let s = past-two right in
     let n = number (c .before .before) in
-    rw (n, ← s .pre .0)
-    (rw (eq-eqb (checked (s .args .frame .now)) 0 (sym n ∙ c .if3 .taken)) at
-    (verdict (c .before .before .before .before)))
+    rw (← s .pre .0, n)
+    (rw (eq-eqb (checked (s .args .frame .now)) 0 (sym n ∙ c .if3 .taken)) at (verdict right))
 
 returns-4 : tie.Need-returns-4
 returns-4 c =
-    let s = c .before .before .before .before .before .before .before .before .before .before .before in
+    let right = c .before .before .before .before in
     let n = number (c .before .before) in
-    rw n (rw (ne-eqb (checked (s .args .frame .now)) 0 (λ e. c .if3 .left (n ∙ e))) at
-    (verdict (c .before .before .before .before)))
+    rw n (rw (ne-eqb (checked (past-two right .args .frame .now)) 0 (λ e. c .if3 .left (n ∙ e))) at (verdict right))
 
 pub judge-whole-spec : {M : Type 1} → statement M
 judge-whole-spec =

@@ -9,26 +9,34 @@ use Rattle.frames.proofs.Plainly.{pair-end, pair-high, pair-low, pair-b
 use Rattle.frames.proofs.pair_at.Statement.{statement}
 use Rattle.frames.proofs.pair_at.Tie as tie
 
+-- the call, from the digits that were read
+abbrev from-high : tie.After-shared-slice-known2 → tie.Start
+from-high c = c .before .before .before
+
+abbrev past-high : tie.After-shared-slice-known4 → tie.After-shared-slice-known2
+past-high c = c .before .before .before
+
+abbrev from-low : tie.After-shared-slice-known4 → tie.Start
+from-low c = from-high (past-high c)
+
 -- past the first test both characters are there
 both-there : (c : tie.Else1) → c .before .args .at + 2 ≤ length (c .before .args .bytes .now)
 both-there c = omega (arith, c .if1 .left, c .before .pre .0)
 
 -- the entries read are the digits' values
 high : (c : tie.After-shared-slice-known2)
-    → let a =
-    c .before .before .before .args in getD (a .digits .now) (getD (a .bytes .now) (a .at) 0) 0 ≡ digitIn
-    (getD (a .bytes .now) (a .at) 0)
+    → let a = from-high c .args in
+    getD (a .digits .now) (getD (a .bytes .now) (a .at) 0) 0 ≡ digitIn (getD (a .bytes .now) (a .at) 0)
 high c =
-    let s = c .before .before .before in
+    let s = from-high c in
     s .pre .1 .entry (getD (s .args .bytes .now) (s .args .at) 0)
     (omega (arith, c .before .shared-slice-known .given (s .args .at)))
 
 low : (c : tie.After-shared-slice-known4)
-    → let a =
-    c .before .before .before .before .before .before .args in getD (a .digits .now)
-    (getD (a .bytes .now) (a .at + 1) 0) 0 ≡ digitIn (getD (a .bytes .now) (a .at + 1) 0)
+    → let a = from-low c .args in
+    getD (a .digits .now) (getD (a .bytes .now) (a .at + 1) 0) 0 ≡ digitIn (getD (a .bytes .now) (a .at + 1) 0)
 low c =
-    let s = c .before .before .before .before .before .before in
+    let s = from-low c in
     s .pre .1 .entry (getD (s .args .bytes .now) (s .args .at + 1) 0)
     (omega (arith, c .before .shared-slice-known3 .given (s .args .at + 1)))
 
@@ -46,17 +54,13 @@ cast-high c = omega (arith, c .shared-slice-known .given (c .before .before .arg
 
 shared-slice-read-high-2 : tie.Need-shared-slice-read-high-2
 shared-slice-read-high-2 c =
-    omega (
-      arith,
-      c .before .shared-slice-known .given
-          (c .before .before .before .args .at),
-      c .before .before .before .pre .1 .sized,
-    )
+    let s = from-high c in omega (arith, c .before .shared-slice-known .given (s .args .at), s .pre .1 .sized)
 
 returns-2 : tie.Need-returns-2
 returns-2 c =
-    let a = c .before .before .before .before .args in pair-high (a .bytes .now) (a .at)
-    (both-there (c .before .before .before)) (omega (arith, high (c .before), c .if2 .taken))
+    let read = c .before in
+    let a = from-high read .args in
+    pair-high (a .bytes .now) (a .at) (both-there (read .before .before)) (omega (arith, high read, c .if2 .taken))
 
 add-low : tie.Need-add-low
 add-low c = search needs
@@ -65,21 +69,18 @@ shared-slice-read-low : tie.Need-shared-slice-read-low
 shared-slice-read-low c = search needs
 
 cast-low : tie.Need-cast-low
-cast-low c = omega (arith, c .shared-slice-known3 .given (c .before .before .before .before .before .args .at + 1))
+cast-low c = omega (arith, c .shared-slice-known3 .given (from-high (c .before .before) .args .at + 1))
 
 shared-slice-read-low-2 : tie.Need-shared-slice-read-low-2
 shared-slice-read-low-2 c =
-    omega (
-      arith,
-      c .before .shared-slice-known3 .given
-          (c .before .before .before .before .before .before .args .at + 1),
-      c .before .before .before .before .before .before .pre .1 .sized,
-    )
+    let s = from-low c in omega (arith, c .before .shared-slice-known3 .given (s .args .at + 1), s .pre .1 .sized)
 
 returns-3 : tie.Need-returns-3
 returns-3 c =
-    let a = c .before .before .before .before .before .before .before .args in pair-low (a .bytes .now) (a .at)
-    (both-there (c .before .before .before .before .before .before)) (omega (arith, low (c .before), c .if3 .taken))
+    let read = c .before in
+    let a = from-low read .args in
+    pair-low (a .bytes .now) (a .at) (both-there (past-high read .before .before))
+    (omega (arith, low read, c .if3 .taken))
 
 mul-result : tie.Need-mul-result
 mul-result c = search needs
@@ -92,12 +93,13 @@ cast-result c = search needs
 
 returns-4 : tie.Need-returns-4
 returns-4 c =
-    let a = c .before .before .before .before .before .before .before .args in
-    let h = high (c .before .before .before .before) in
-    let l = low (c .before) in
+    let read = c .before in
+    let a = from-low read .args in
+    let h = high (past-high read) in
+    let l = low read in
     rw (h, l)
-    (pair-both (a .bytes .now) (a .at) (both-there (c .before .before .before .before .before .before))
-    (omega (arith, h, c .before .before .before .if2 .left)) (omega (arith, l, c .if3 .left)))
+    (pair-both (a .bytes .now) (a .at) (both-there (past-high read .before .before))
+    (omega (arith, h, read .before .before .if2 .left)) (omega (arith, l, c .if3 .left)))
 
 pub pair-at-spec : {M : Type 1} → statement M
 pair-at-spec =

@@ -26,18 +26,31 @@ abbrev μ-loop : tie.MeasureT-loop
 few : (s : tie.Start Inv-loop μ-loop) → s .args .first + beyond (s .args .framing) ≤ longest + 3
 few s = omega (arith, length-ok (s .args .first) (s .pre .1) .few, beyond-few (s .args .framing))
 
+-- the call, from what lies beyond the length and from a turn
+abbrev from-beyond : tie.After-beyond Inv-loop μ-loop → tie.Start Inv-loop μ-loop
+from-beyond c = c .before .before .before .before
+
+abbrev from-turn : tie.At-loop Inv-loop μ-loop → tie.Start Inv-loop μ-loop
+from-turn c = from-beyond (c .before)
+
+-- the turn in which a byte was kept
+abbrev turn : tie.Else1 Inv-loop μ-loop → tie.At-loop Inv-loop μ-loop
+turn c = c .before .before .before
+
+-- and the one in which none was
+abbrev last-turn : tie.Then1 Inv-loop μ-loop → tie.At-loop Inv-loop μ-loop
+last-turn c = c .before .before .before
+
 -- where the next byte is stored
-room : (c : tie.At-loop Inv-loop μ-loop)
-    → let s = c .before .before .before .before .before in s .args .held + c .loop .i ≤ longest + 3
+room : (c : tie.At-loop Inv-loop μ-loop) → from-turn c .args .held + c .loop .i ≤ longest + 3
 room c =
-    let s = c .before .before .before .before .before in
+    let s = from-turn c in
     omega (arith, few s, s .pre .2 .held, c .loop .inv .0, c .loop .inv .1)
 
 -- the array's size stays
-sized : (c : tie.At-loop Inv-loop μ-loop)
-    → let s = c .before .before .before .before .before in length (c .loop .frame) ≡ length (s .args .frame .now)
+sized : (c : tie.At-loop Inv-loop μ-loop) → length (c .loop .frame) ≡ length (from-turn c .args .frame .now)
 sized c =
-    let s = c .before .before .before .before .before in
+    let s = from-turn c in
     ap length (c .loop .inv .3)
     ∙ length-paste (s .args .frame .now) (s .args .held) (plainOf (s .args .framing) (s .args .bytes .now)) (c .loop .i)
     (omega (arith, room c, s .pre .2 .size)) (c .loop .inv .2 .some)
@@ -46,11 +59,11 @@ beyond-requires : tie.Need-beyond-requires Inv-loop μ-loop
 beyond-requires c κs = tt
 
 add-end : tie.Need-add-end Inv-loop μ-loop
-add-end c = let s = c .before .before .before .before in omega (arith, few s, c .beyond .ensures)
+add-end c = omega (arith, few (from-beyond c), c .beyond .ensures)
 
 loop-holds : tie.Need-loop-holds Inv-loop μ-loop
 loop-holds c =
-    let a = c .before .before .before .before .args in (
+    let a = from-beyond c .args in (
       ap (λ n. a .first + n) (c .beyond .ensures),
       omega arith,
       went-none (a .framing) (a .bytes .now),
@@ -63,16 +76,15 @@ add-loop c = omega (arith, room c)
 
 plain-at-requires : tie.Need-plain-at-requires Inv-loop μ-loop
 plain-at-requires c κs =
-    let s = c .before .before .before .before .before .before in
-    (s .pre .0, c .before .loop .inv .2 .line)
+    (from-turn (c .before) .pre .0, c .before .loop .inv .2 .line)
 
 same-length : tie.Need-same-length Inv-loop μ-loop
-same-length c = sized (c .before .before .before)
+same-length c = sized (last-turn c)
 
 returns : tie.Need-returns Inv-loop μ-loop
 returns c =
-    let l = c .before .before .before .loop in
-    let a = c .before .before .before .before .before .before .before .before .args in
+    let l = last-turn c .loop in
+    let a = from-turn (last-turn c) .args in
     rw (l .inv .3)
     (laid-taken (a .frame .now) (plainOf (a .framing) (a .bytes .now)) (a .held) (l .i)
     (a .first + beyond (a .framing) - a .held)
@@ -83,32 +95,24 @@ cast-frame : tie.Need-cast-frame Inv-loop μ-loop
 cast-frame c = search needs
 
 add-frame : tie.Need-add-frame Inv-loop μ-loop
-add-frame c = omega (arith, room (c .before .before .before))
+add-frame c = omega (arith, room (turn c))
 
 slice-write-frame : tie.Need-slice-write-frame Inv-loop μ-loop
 slice-write-frame c =
-    let s = c .before .before .before .before .before .before .before .before in
-    omega (
-      arith,
-      room (c .before .before .before),
-      sized
-          (c .before .before .before),
-      s .pre .2 .size,
-      few s,
-      c .before .before .before .loop .inv .0,
-      c .before .before .loop-test .taken,
-    )
+    let t = turn c in
+    let s = from-turn t in
+    omega (arith, room t, sized t, s .pre .2 .size, few s, t .loop .inv .0, c .before .before .loop-test .taken)
 
 add-i : tie.Need-add-i Inv-loop μ-loop
-add-i c = omega (arith, room (c .before .before .before))
+add-i c = omega (arith, room (turn c))
 
 loop-less : tie.Need-loop-less Inv-loop μ-loop
 loop-less c = omega (arith, c .before .before .loop-test .taken)
 
 loop-again : tie.Need-loop-again Inv-loop μ-loop
 loop-again c =
-    let l = c .before .before .before .loop in
-    let s = c .before .before .before .before .before .before .before .before in
+    let l = turn c .loop in
+    let s = from-turn (turn c) in
     let fits : s .args .held + l .i < length (s .args .frame .now) = omega
     (arith, few s, l .inv .0, c .before .before .loop-test .taken, s .pre .2 .size) in (
       l .inv .0,
@@ -124,7 +128,7 @@ same-length-2 c = sized (c .before)
 returns-2 : tie.Need-returns-2 Inv-loop μ-loop
 returns-2 c =
     let l = c .before .loop in
-    let a = c .before .before .before .before .before .before .args in
+    let a = from-turn (c .before) .args in
     rw (l .inv .3)
     (laid-taken (a .frame .now) (plainOf (a .framing) (a .bytes .now)) (a .held) (l .i)
     (a .first + beyond (a .framing) - a .held)

@@ -44,7 +44,8 @@ loop-less c = search needs
 
 loop-again : tie.Need-loop-again Inv-loop μ-loop
 loop-again c =
-    pass-part (c .before .before .before .before .loop .inv) _ (omega arith) (omega arith)
+    let turn = c .before .before .before .before in
+    pass-part (turn .loop .inv) _ (omega arith) (omega arith)
     (sym (c .before .has-start .ensures) ∙ c .if1 .left)
 
 returns-2 : tie.Need-returns-2 Inv-loop μ-loop

@@ -8,6 +8,10 @@ use Rattle.frames.proofs.Plainly.{stand-end, stand-one, stand-not}
 use Rattle.frames.proofs.standing_at.Statement.{statement}
 use Rattle.frames.proofs.standing_at.Tie as tie
 
+-- past the test, from where it stands
+abbrev past-test : tie.Then2 → tie.Else1
+past-test c = c .before .before .before
+
 returns : tie.Need-returns
 returns c = let a = c .before .before .args in stand-end (a .bytes .now) (a .at) (c .if1 .taken)
 
@@ -19,21 +23,21 @@ stands-requires c κs = search needs
 
 cast-result : tie.Need-cast-result
 cast-result c =
-    omega (arith, c .before .before .shared-slice-known2 .given (c .before .before .before .before .before .args .at))
+    omega (arith, c .before .before .shared-slice-known2 .given (past-test c .before .before .args .at))
 
 returns-2 : tie.Need-returns-2
 returns-2 c =
-    let a = c .before .before .before .before .before .args in
+    let past = past-test c in
+    let a = past .before .before .args in
     let few : getD (a .bytes .now) (a .at) 0 ≤ 255 =
     omega (arith, c .before .before .shared-slice-known2 .given (a .at)) in
-    stand-one (a .bytes .now) (a .at) (c .before .before .before .if1 .left)
-    (sym (c .before .stands .ensures) ∙ c .if2 .taken) few
+    stand-one (a .bytes .now) (a .at) (past .if1 .left) (sym (c .before .stands .ensures) ∙ c .if2 .taken) few
 
 returns-3 : tie.Need-returns-3
 returns-3 c =
-    let a = c .before .before .before .before .before .args in
-    stand-not (a .bytes .now) (a .at) (c .before .before .before .if1 .left)
-    (sym (c .before .stands .ensures) ∙ c .if2 .left)
+    let past = c .before .before .before in
+    let a = past .before .before .args in
+    stand-not (a .bytes .now) (a .at) (past .if1 .left) (sym (c .before .stands .ensures) ∙ c .if2 .left)
 
 pub standing-at-spec : {M : Type 1} → statement M
 standing-at-spec =
