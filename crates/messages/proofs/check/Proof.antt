@@ -49,19 +49,23 @@ module _ (m : List ℕ) where
             ∙ length-number (byte 1 m) known
             ∙ sym (number-length (numberOf (byte 1 m)) (mod-lt (byte 1 m) (lit< tt)))
 
+-- the message, from past the first two tests, and they from past the third
+abbrev message : tie.Else2 → List ℕ
+message c = c .before .before .before .args .message .now
+
+abbrev past-two : tie.Else3 → tie.Else2
+past-two c = c .before .before .before
+
 -- past the first two tests
-sized : (c : tie.Else2) → Length (length (c .before .before .before .args .message .now))
+sized : (c : tie.Else2) → Length (length (message c))
 sized c = record { some = omega arith; few = c .if2 .left }
 
 -- past the third
-known : (c : tie.Else3) → lengthFor (byte 1 (c .before .before .before .before .before .before .args .message .now)) ≡ 0
-    → ⊥
+known : (c : tie.Else3) → lengthFor (byte 1 (message (past-two c))) ≡ 0 → ⊥
 known c e = c .if3 .left (c .before .length-for .ensures ∙ e)
 
 -- past the fourth
-whole : (c : tie.Else4)
-    → length (c .before .before .before .before .before .before .before .args .message .now)
-    ≡ lengthFor (byte 1 (c .before .before .before .before .before .before .before .args .message .now))
+whole : (c : tie.Else4) → let m = message (past-two (c .before)) in length m ≡ lengthFor (byte 1 m)
 whole c = c .if4 .left ∙ c .before .before .length-for .ensures
 
 returns : tie.Need-returns
@@ -77,31 +81,32 @@ length-for-requires : tie.Need-length-for-requires
 length-for-requires c κs = search needs
 
 returns-3 : tie.Need-returns-3
-returns-3 c = unknown _ (sized (c .before .before .before)) (sym (c .before .length-for .ensures) ∙ c .if3 .taken)
+returns-3 c =
+    let past = c .before .before .before in
+    unknown _ (sized past) (sym (c .before .length-for .ensures) ∙ c .if3 .taken)
 
 cast-if4 : tie.Need-cast-if4
 cast-if4 c = search needs
 
 returns-4 : tie.Need-returns-4
 returns-4 c =
-    other _ (sized (c .before .before .before .before)) (known (c .before))
-    (λ e. c .if4 .taken (e ∙ sym (c .before .before .length-for .ensures)))
+    let past = c .before in
+    other _ (sized (past-two past)) (known past) (λ e. c .if4 .taken (e ∙ sym (past .before .length-for .ensures)))
 
 values-ok-requires : tie.Need-values-ok-requires
 values-ok-requires c κs =
-    let start = c .before .before .before .before .before .before .before in
-    of-number (start .args .message .now) (sized (c .before .before .before .before)) (known (c .before)) (whole c)
+    let two = past-two (c .before) in of-number (message two) (sized two) (known (c .before)) (whole c)
 
 returns-5 : tie.Need-returns-5
 returns-5 c =
     let past = c .before .before in
-    good _ (sized (past .before .before .before .before)) (known (past .before)) (whole past)
+    good _ (sized (past-two (past .before))) (known (past .before)) (whole past)
     (sym (c .before .values-ok .ensures) ∙ c .if5 .taken)
 
 returns-6 : tie.Need-returns-6
 returns-6 c =
     let past = c .before .before in
-    wrong _ (sized (past .before .before .before .before)) (known (past .before)) (whole past)
+    wrong _ (sized (past-two (past .before))) (known (past .before)) (whole past)
     (sym (c .before .values-ok .ensures) ∙ c .if5 .left)
 
 pub check-spec : {M : Type 1} → statement M

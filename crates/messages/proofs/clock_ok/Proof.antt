@@ -34,25 +34,31 @@ toHour m = toDay m && leb (byte 5 m) 23
 abbrev toMinute : List ℕ → Bool
 toMinute m = toHour m && leb (byte 6 m) 59
 
-to-month : (c : tie.Joined1) → c .if1 .if2 ≡ toMonth (c .before .before .before .args .message .now)
+-- the message, from where the ways meet after the month and after the hour
+abbrev at-month : tie.Joined1 → List ℕ
+at-month c = c .before .before .before .args .message .now
+
+abbrev at-hour : tie.Joined3 → List ℕ
+at-hour c = at-month (c .before .before)
+
+to-month : (c : tie.Joined1) → c .if1 .if2 ≡ toMonth (at-month c)
 to-month c =
     ⊎-elim (λ w. past-true refl (le-leb _ _ (w .0 .taken)) (w .3 ∙ w .2 .ensures))
     (λ w. past-false _ refl (lt-leb _ _ (w .0 .left)) (w .1))
     (c .if1 .came)
 
-to-day : (c : tie.Joined2) → c .if2 .if3 ≡ toDay (c .before .before .before .before .args .message .now)
+to-day : (c : tie.Joined2) → c .if2 .if3 ≡ toDay (at-month (c .before))
 to-day c =
     ⊎-elim (λ w. past-true (to-month (c .before)) (w .0 .taken) (w .3 ∙ w .2 .ensures))
     (λ w. past-false _ (to-month (c .before)) (w .0 .left) (w .1))
     (c .if2 .came)
 
-to-hour : (c : tie.Joined3) → c .if3 .if4 ≡ toHour (c .before .before .before .before .before .args .message .now)
+to-hour : (c : tie.Joined3) → c .if3 .if4 ≡ toHour (at-hour c)
 to-hour c =
     ⊎-elim (λ w. past-true (to-day (c .before)) (w .0 .taken) (w .2))
     (λ w. past-false _ (to-day (c .before)) (w .0 .left) (w .1)) (c .if3 .came)
 
-to-minute : (c : tie.Joined4)
-    → c .if4 .if5 ≡ toMinute (c .before .before .before .before .before .before .args .message .now)
+to-minute : (c : tie.Joined4) → c .if4 .if5 ≡ toMinute (at-hour (c .before))
 to-minute c =
     ⊎-elim (λ w. past-true (to-hour (c .before)) (w .0 .taken) (w .2))
     (λ w. past-false _ (to-hour (c .before)) (w .0 .left) (w .1)) (c .if4 .came)
@@ -85,7 +91,8 @@ between-requires-3 : tie.Need-between-requires-3
 between-requires-3 c κs = search needs
 
 returns : tie.Need-returns
-returns c = past-true (to-minute (c .before .before .before)) (c .before .before .if5 .taken) (c .between3 .ensures)
+returns c =
+    let kept = c .before .before in past-true (to-minute (kept .before)) (kept .if5 .taken) (c .between3 .ensures)
 
 returns-2 : tie.Need-returns-2
 returns-2 c = past-false _ (to-minute (c .before)) (c .if5 .left) refl

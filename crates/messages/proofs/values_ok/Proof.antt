@@ -49,16 +49,16 @@ unchecked c a b d e f =
 shared-slice-read-result : tie.Need-shared-slice-read-result
 unfolding lengthFor
 shared-slice-read-result c =
-    let s = c .before .before .before in
-    has (s .args .message .now) (s .args .number) 1 (0x05 ∷ 0x25 ∷ []) (s .pre) (lit< tt, lit< tt)
-    (c .before .match .keys1)
+    let arm = c .before in
+    let s = arm .before .before in
+    has (s .args .message .now) (s .args .number) 1 (0x05 ∷ 0x25 ∷ []) (s .pre) (lit< tt, lit< tt) (arm .match .keys1)
 
 shared-slice-read-result-2 : tie.Need-shared-slice-read-result-2
 unfolding lengthFor
 shared-slice-read-result-2 c =
-    let s = c .before .before .before in
-    has (s .args .message .now) (s .args .number) 1 (0x06 ∷ 0x26 ∷ []) (s .pre) (lit< tt, lit< tt)
-    (c .before .match .keys2)
+    let arm = c .before in
+    let s = arm .before .before in
+    has (s .args .message .now) (s .args .number) 1 (0x06 ∷ 0x26 ∷ []) (s .pre) (lit< tt, lit< tt) (arm .match .keys2)
 
 x10-ok-requires : tie.Need-x10-ok-requires
 unfolding lengthFor
@@ -69,14 +69,16 @@ x10-ok-requires c κs =
 shared-slice-read-result-3 : tie.Need-shared-slice-read-result-3
 unfolding lengthFor
 shared-slice-read-result-3 c =
-    let s = c .before .before .before in
-    has (s .args .message .now) (s .args .number) 2 (0x0B ∷ []) (s .pre) (lit< tt) (c .before .match .keys4)
+    let arm = c .before in
+    let s = arm .before .before in
+    has (s .args .message .now) (s .args .number) 2 (0x0B ∷ []) (s .pre) (lit< tt) (arm .match .keys4)
 
 shared-slice-read-result-4 : tie.Need-shared-slice-read-result-4
 unfolding lengthFor
 shared-slice-read-result-4 c =
-    let s = c .before .before .before in
-    has (s .args .message .now) (s .args .number) 2 (0x2B ∷ []) (s .pre) (lit< tt) (c .before .match .keys5)
+    let arm = c .before in
+    let s = arm .before .before in
+    has (s .args .message .now) (s .args .number) 2 (0x2B ∷ []) (s .pre) (lit< tt) (arm .match .keys5)
 
 clock-ok-requires : tie.Need-clock-ok-requires
 unfolding lengthFor
@@ -93,33 +95,39 @@ location-ok-requires c κs =
 
 returns : tie.Need-returns
 returns c =
-    let s = c .before .before .before in
-    sym (values-offset (s .args .message .now) (s .args .number) (c .before .match .keys1))
+    let arm = c .before in
+    let s = arm .before .before in
+    sym (values-offset (s .args .message .now) (s .args .number) (arm .match .keys1))
 
 returns-2 : tie.Need-returns-2
 returns-2 c =
-    let s = c .before .before .before in
-    sym (values-partition (s .args .message .now) (s .args .number) (c .before .match .keys2))
+    let arm = c .before in
+    let s = arm .before .before in
+    sym (values-partition (s .args .message .now) (s .args .number) (arm .match .keys2))
 
 returns-3 : tie.Need-returns-3
 returns-3 c =
-    let s = c .before .before .before in
-    c .x10-ok .ensures ∙ sym (values-x10 (s .args .message .now) (s .args .number) (c .before .match .keys3))
+    let arm = c .before in
+    let s = arm .before .before in
+    c .x10-ok .ensures ∙ sym (values-x10 (s .args .message .now) (s .args .number) (arm .match .keys3))
 
 returns-4 : tie.Need-returns-4
 returns-4 c =
-    let s = c .before .before .before in
-    sym (values-key (s .args .message .now) (s .args .number) (c .before .match .keys4))
+    let arm = c .before in
+    let s = arm .before .before in
+    sym (values-key (s .args .message .now) (s .args .number) (arm .match .keys4))
 
 returns-5 : tie.Need-returns-5
 returns-5 c =
-    let s = c .before .before .before in
-    sym (values-keypad (s .args .message .now) (s .args .number) (c .before .match .keys5))
+    let arm = c .before in
+    let s = arm .before .before in
+    sym (values-keypad (s .args .message .now) (s .args .number) (arm .match .keys5))
 
 returns-6 : tie.Need-returns-6
 returns-6 c =
-    let s = c .before .before .before in
-    c .clock-ok .ensures ∙ sym (values-clock (s .args .message .now) (s .args .number) (c .before .match .keys7))
+    let arm = c .before in
+    let s = arm .before .before in
+    c .clock-ok .ensures ∙ sym (values-clock (s .args .message .now) (s .args .number) (arm .match .keys7))
 
 returns-7 : tie.Need-returns-7
 returns-7 c = search needs
@@ -130,13 +138,13 @@ returns-8 c =
 
 returns-9 : tie.Need-returns-9
 returns-9 c =
-    unchecked (c .before .before .before) (λ e. omega arith) (λ e. omega arith) (λ e. omega arith) (λ e. omega arith)
-    (λ e. omega arith)
+    let arm = c .before .before .before in
+    unchecked arm (λ e. omega arith) (λ e. omega arith) (λ e. omega arith) (λ e. omega arith) (λ e. omega arith)
 
 returns-10 : tie.Need-returns-10
 returns-10 c =
-    unchecked (c .before .before .before .before) (λ e. omega arith) (λ e. omega arith) (λ e. omega arith)
-    (λ e. omega arith) (λ e. omega arith)
+    let arm = c .before .before .before .before in
+    unchecked arm (λ e. omega arith) (λ e. omega arith) (λ e. omega arith) (λ e. omega arith) (λ e. omega arith)
 
 returns-11 : tie.Need-returns-11
 returns-11 c = search needs
