@@ -28,6 +28,17 @@ Inv-loop message n one₀ two₀ size₀ i₀ one two size i = Passed message on
 abbrev μ-loop : tie.MeasureT-loop
 μ-loop message n one₀ two₀ size₀ i₀ one two size i = length message - i
 
+-- the call, from before the turns
+abbrev call : tie.After-stuffed-length Inv-loop μ-loop → tie.Start Inv-loop μ-loop
+call c = c .before .before .before .before
+
+-- a turn, from its end, and the last one, from the end of the code
+abbrev turn : tie.After-stuffed-length2 Inv-loop μ-loop → tie.At-loop Inv-loop μ-loop
+turn c = c .before .before .before .before .before
+
+abbrev last-turn : tie.After-stuffed-length4 Inv-loop μ-loop → tie.At-loop Inv-loop μ-loop
+last-turn c = c .before .before .before
+
 cast-n : tie.Need-cast-n Inv-loop μ-loop
 cast-n c = omega arith
 
@@ -42,7 +53,7 @@ stuffed-length-requires c κs = tt
 
 loop-holds : tie.Need-loop-holds Inv-loop μ-loop
 loop-holds c =
-    let L = length (c .before .before .before .before .args .message .now) in
+    let L = length (call c .args .message .now) in
     let after : Sums = record { one = c .before .before .add .result; two = c .before .add2 .result } in
     let step : after ≡ stepped (record { one = 0; two = 0 }) L = cc in
     let none = ap (λ (l : List ℕ). length l) (coding-none Binary) in
@@ -66,7 +77,7 @@ stuffed-length-requires-2 : tie.Need-stuffed-length-requires-2 Inv-loop μ-loop
 stuffed-length-requires-2 c κs = tt
 
 add-size : tie.Need-add-size Inv-loop μ-loop
-add-size c = let l = c .before .before .before .before .before .loop .inv in omega (arith, l .small, l .within)
+add-size c = let l = turn c .loop .inv in omega (arith, l .small, l .within)
 
 add-i : tie.Need-add-i Inv-loop μ-loop
 add-i c = omega arith
@@ -76,8 +87,8 @@ loop-less c = omega arith
 
 loop-again : tie.Need-loop-again Inv-loop μ-loop
 loop-again c =
-    let l = c .before .before .before .before .before .loop in
-    let m = c .before .before .before .before .before .before .before .before .before .before .args .message .now in
+    let l = turn c .loop in
+    let m = call (turn c .before) .args .message .now in
     let b = getD m (l .i) 0 in
     let before : Sums = record { one = l .one; two = l .two } in
     let after : Sums = record { one = c .before .before .add3 .result; two = c .before .add4 .result } in
@@ -102,12 +113,12 @@ add-result-2 : tie.Need-add-result-2 Inv-loop μ-loop
 add-result-2 c = let l = c .before .before .loop .inv in omega (arith, l .small, l .within)
 
 add-result-3 : tie.Need-add-result-3 Inv-loop μ-loop
-add-result-3 c = let l = c .before .before .before .loop .inv in omega (arith, l .small, l .within)
+add-result-3 c = let l = last-turn c .loop .inv in omega (arith, l .small, l .within)
 
 returns : tie.Need-returns Inv-loop μ-loop
 returns c =
-    let l = c .before .before .before .loop in
-    let m = c .before .before .before .before .before .before .before .before .args .message .now in
+    let l = last-turn c .loop in
+    let m = call (last-turn c .before) .args .message .now in
     let whole : take (l .i) m ≡ m = take-all (l .i) m (omega arith) in
     let sums = l .inv .sums ∙ ap (λ t. sumsOf (length m ∷ t)) whole in
     let size = l .inv .coded ∙ ap (λ t. length (stuffed (length m)) + length (coding Binary t)) whole in

@@ -7,25 +7,31 @@ enum-told : tie.Need-enum-told
 enum-told c = search needs
 
 put-stuffed-requires : tie.Need-put-stuffed-requires
-put-stuffed-requires c κs = rw (c .before .enum-told .given .1) at (c .before .before .before .before .pre)
+put-stuffed-requires c κs =
+    let call = c .before .before .before .before in rw (c .before .enum-told .given .1) at (call .pre)
 
 enum-told-2 : tie.Need-enum-told-2
 enum-told-2 c = search needs
 
 put-digits-requires : tie.Need-put-digits-requires
-put-digits-requires c κs = rw (c .before .enum-told2 .given .1) at (c .before .before .before .before .pre)
+put-digits-requires c κs =
+    let call = c .before .before .before .before in rw (c .before .enum-told2 .given .1) at (call .pre)
 
 same-length : tie.Need-same-length
 same-length c = search needs
 
 returns : tie.Need-returns
-returns c = rw (c .before .before .before .before .enum-told .given .1) (c .before .before .put-stuffed .ensures)
+returns c =
+    let arm = c .before .before .before .before in
+    rw (arm .enum-told .given .1) (c .before .before .put-stuffed .ensures)
 
 same-length-2 : tie.Need-same-length-2
 same-length-2 c = search needs
 
 returns-2 : tie.Need-returns-2
-returns-2 c = rw (c .before .before .before .before .enum-told2 .given .1) (c .before .before .put-digits .ensures)
+returns-2 c =
+    let arm = c .before .before .before .before in
+    rw (arm .enum-told2 .given .1) (c .before .before .put-digits .ensures)
 
 pub put-coded-spec : {M : Type 1} → statement M
 put-coded-spec =

@@ -22,18 +22,31 @@ f s = s .args .framing
 fits : (s : tie.Start) → pieces.Fits (f s) (m s) (length (s .args .frame .now))
 fits s = pieces.pieces-fit (f s) (m s) (length (s .args .frame .now)) (s .pre .1)
 
+-- behind each piece, from behind the next
+abbrev at-length : tie.After-put-summed → tie.After-put-coded
+at-length c = c .before .before .before .before
+
+abbrev at-message : tie.After-put-coded2 → tie.After-put-summed
+at-message c = c .before .before .before .before .before
+
+abbrev at-one : tie.After-put-coded3 → tie.After-put-coded2
+at-one c = c .before .before .before .before
+
+abbrev at-two : tie.After-put-stop → tie.After-put-coded3
+at-two c = c .before .before .before .before
+
 -- the beginning, from behind each piece
 abbrev from-length : tie.After-put-coded → tie.Start
 from-length c = c .before .before .before .before .before
 
 abbrev from-message : tie.After-put-summed → tie.Start
-from-message c = from-length (c .before .before .before .before)
+from-message c = from-length (at-length c)
 
 abbrev from-one : tie.After-put-coded2 → tie.Start
-from-one c = from-message (c .before .before .before .before .before)
+from-one c = from-message (at-message c)
 
 abbrev from-two : tie.After-put-coded3 → tie.Start
-from-two c = from-one (c .before .before .before .before)
+from-two c = from-one (at-one c)
 
 -- what stands there then
 abbrev Stands : tie.Start → List ℕ → List ℕ → ℕ → Type 0
@@ -47,35 +60,36 @@ length-stands c = rw (← c .before .before .start-of .ensures) (put-then (put-o
 message-stands : (c : tie.After-put-summed)
     → Stands (from-message c) (pieces.toMessage (f (from-message c)) (m (from-message c))) (c .put-summed .last .0)
     (c .put-summed .result .next)
-message-stands c = put-then (length-stands (c .before .before .before .before)) (c .put-summed .ensures .1)
+message-stands c = put-then (length-stands (at-length c)) (c .put-summed .ensures .1)
 
 one-stands : (c : tie.After-put-coded2)
     → Stands (from-one c) (pieces.toOne (f (from-one c)) (m (from-one c))) (c .put-coded2 .last .0)
     (c .put-coded2 .result)
 one-stands c =
-    let put = c .before .before .before .before .before in
+    let put = at-message c in
     put-then (message-stands put) (rw (put .put-summed .ensures .0) at (c .put-coded2 .ensures))
 
 two-stands : (c : tie.After-put-coded3)
     → Stands (from-two c) (pieces.toTwo (f (from-two c)) (m (from-two c))) (c .put-coded3 .last .0)
     (c .put-coded3 .result)
 two-stands c =
-    let put = c .before .before .before .before in
-    let sums = put .before .before .before .before .before .put-summed .ensures .0 in
+    let put = at-one c in
+    let sums = at-message put .put-summed .ensures .0 in
     put-then (one-stands put) (rw sums at (c .put-coded3 .ensures))
 
 start-of-requires : tie.Need-start-of-requires
 start-of-requires c κs = search needs
 
 slice-write-frame : tie.Need-slice-write-frame
-slice-write-frame c = let room = fits (c .before .before .before) .size in omega (arith, room)
+slice-write-frame c = let call = c .before .before .before in let room = fits call .size in omega (arith, room)
 
 cast-put-coded : tie.Need-cast-put-coded
 cast-put-coded c = search needs
 
 put-coded-requires : tie.Need-put-coded-requires
 put-coded-requires c κs =
-    let room = fits (c .before .before .before .before) .size in
+    let call = c .before .before .before .before in
+    let room = fits call .size in
     simp length-set (omega (arith, room))
 
 put-summed-requires : tie.Need-put-summed-requires
@@ -95,7 +109,7 @@ put-coded-requires-3 : tie.Need-put-coded-requires-3
 put-coded-requires-3 c κs =
     let put = c .before .before .before in
     let s = from-one put in
-    rw (put .before .before .before .before .before .put-summed .ensures .0)
+    rw (at-message put .put-summed .ensures .0)
     (pieces.next-fits (coded (f s) (pieces.two (f s) (m s))) (one-stands put) (fits s .sum2))
 
 put-stop-requires : tie.Need-put-stop-requires
@@ -105,16 +119,16 @@ put-stop-requires c κs =
     pieces.next-fits (stopOf (f s)) (two-stands put) (fits s .stop)
 
 stands : (c : tie.After-put-stop)
-    → let s = from-two (c .before .before .before .before) in
+    → let s = from-two (at-two c) in
     Stands s (pieces.toTwo (f s) (m s) ++ stopOf (f s)) (c .put-stop .last .0) (c .put-stop .result)
-stands c = put-then (two-stands (c .before .before .before .before)) (c .put-stop .ensures)
+stands c = put-then (two-stands (at-two c)) (c .put-stop .ensures)
 
 same-length : tie.Need-same-length
 same-length c = put-length (stands (c .before .before))
 
 returns : tie.Need-returns
 returns c =
-    let s = from-two (c .before .before .before .before .before .before) in
+    let s = from-two (at-two (c .before .before)) in
     rw (← pieces.pieces (f s) (m s)) (stands (c .before .before))
 
 pub put-frame-spec : {M : Type 1} → statement M

@@ -15,7 +15,9 @@ same-length : tie.Need-same-length
 same-length c = search needs
 
 returns : tie.Need-returns
-returns c = rw (eq-eqb _ _ (c .before .before .before .before .if1 .taken)) (c .before .before .put-two .ensures)
+returns c =
+    let tested = c .before .before .before .before in
+    rw (eq-eqb _ _ (tested .if1 .taken)) (c .before .before .put-two .ensures)
 
 put-two-requires-2 : tie.Need-put-two-requires-2
 put-two-requires-2 c κs =

@@ -25,6 +25,10 @@ Inv-loop frame₀ place message framing one₀ two₀ next₀ i₀ frame one two
 abbrev μ-loop : tie.MeasureT-loop
 μ-loop frame₀ place message framing one₀ two₀ next₀ i₀ frame one two next i = length message - i
 
+-- the call, from the first sums
+abbrev call : tie.After-add2 Inv-loop μ-loop → tie.Start Inv-loop μ-loop
+call c = c .before .before .before .before
+
 cast-add : tie.Need-cast-add Inv-loop μ-loop
 cast-add c = omega arith
 
@@ -36,7 +40,7 @@ add-requires-2 c κs = tt
 
 loop-holds : tie.Need-loop-holds Inv-loop μ-loop
 loop-holds c =
-    let L = length (c .before .before .before .before .args .message .now) in
+    let L = length (call c .args .message .now) in
     let after : Sums = record { one = c .before .add .result; two = c .add2 .result } in
     let step : after ≡ stepped (record { one = 0; two = 0 }) L = cc in
     (omega arith, rw (coding-none _) (put-none _ _), step ∙ sums-first L)
@@ -46,8 +50,9 @@ shared-slice-read-b c = omega arith
 
 put-coded-requires : tie.Need-put-coded-requires Inv-loop μ-loop
 put-coded-requires c κs =
-    let l = c .before .before .before .loop in
-    let s = c .before .before .before .before .before .before .before .before in
+    let turn = c .before .before .before in
+    let l = turn .loop in
+    let s = call (turn .before) in
     let f = s .args .framing in
     let m = s .args .message .now in
     let more = length-more f m (l .i) (omega arith) in
@@ -69,8 +74,9 @@ loop-less c = omega arith
 loop-again : tie.Need-loop-again Inv-loop μ-loop
 loop-again c =
     let put = c .before .before .before .before in
-    let l = put .before .before .before .before .loop in
-    let s = put .before .before .before .before .before .before .before .before .before in
+    let turn = put .before .before .before .before in
+    let l = turn .loop in
+    let s = call (turn .before) in
     let m = s .args .message .now in
     let b = getD m (l .i) 0 in
     let before : Sums = record { one = l .one; two = l .two } in
@@ -88,7 +94,7 @@ same-length c = put-length (c .before .loop .inv .1)
 returns : tie.Need-returns Inv-loop μ-loop
 returns c =
     let l = c .before .loop in
-    let m = c .before .before .before .before .before .before .args .message .now in
+    let m = call (c .before .before) .args .message .now in
     let whole : take (l .i) m ≡ m = take-all (l .i) m (omega arith) in
     (l .inv .2 ∙ ap (λ t. sumsOf (length m ∷ t)) whole, rw whole at (l .inv .1))
 
