@@ -9,11 +9,15 @@ use Rattle.standard.proofs.Questions.{asked-whole, whole-is}
 use Rattle.overview.proofs.group.Statement.{statement}
 use Rattle.overview.proofs.group.Tie as tie
 
+-- the call, from what the table's own number says
+abbrev call : tie.After-refusal → tie.Start
+call c = c .before .before
+
 -- past the test the table is whole
-whole : (c : tie.Else1) → isTable (c .before .before .before .args .table .now) ≡ true
+whole : (c : tie.Else1) → isTable (call (c .before) .args .table .now) ≡ true
 whole c = sym (whole-is _) ∙ eq-eqb _ _ (sym (c .before .refusal .ensures) ∙ c .if1 .left)
 
-refused : (c : tie.Then1) → isTable (c .before .before .before .args .table .now) ≡ false
+refused : (c : tie.Then1) → isTable (call (c .before) .args .table .now) ≡ false
 refused c = sym (whole-is _) ∙ ne-eqb _ _ (λ z. c .if1 .taken (c .before .refusal .ensures ∙ z))
 
 refusal-requires : tie.Need-refusal-requires

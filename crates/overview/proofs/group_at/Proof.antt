@@ -63,23 +63,24 @@ add-j c = omega arith
 loop-less : tie.Need-loop-less Inv-loop μ-loop
 loop-less c = omega arith
 
--- the table and the group, from the end of a turn
+-- the turn, the table and the group, from the end of the turn
+abbrev turnAt : tie.Joined1 Inv-loop μ-loop → tie.At-loop Inv-loop μ-loop
+turnAt c = c .before .before .before .before
+
 abbrev tableAt : tie.Joined1 Inv-loop μ-loop → List ℕ
-tableAt c = c .before .before .before .before .before .before .args .table .now
+tableAt c = turnAt c .before .before .args .table .now
 
 abbrev indexAt : tie.Joined1 Inv-loop μ-loop → ℕ
-indexAt c = c .before .before .before .before .before .before .args .index
+indexAt c = turnAt c .before .before .args .index
 
 -- what a turn adds
 record Turn (c : tie.Joined1 Inv-loop μ-loop) : Type 0 where
-  heard : c .if1 .heard ≡ c .before .before .before .before .loop .heard + heardIn (tableAt c) (indexAt c)
-      (c .before .before .before .before .loop .j)
-  faulted : c .if1 .faulted ≡ c .before .before .before .before .loop .faulted + faultedIn (tableAt c) (indexAt c)
-      (c .before .before .before .before .loop .j)
+  heard : c .if1 .heard ≡ turnAt c .loop .heard + heardIn (tableAt c) (indexAt c) (turnAt c .loop .j)
+  faulted : c .if1 .faulted ≡ turnAt c .loop .faulted + faultedIn (tableAt c) (indexAt c) (turnAt c .loop .j)
 
 counts : (c : tie.Joined1 Inv-loop μ-loop) → Turn c
 counts c =
-    let whole = whole-asked (tableAt c) (c .before .before .before .before .before .before .pre .0) in
+    let whole = whole-asked (tableAt c) (turnAt c .before .before .pre .0) in
     let is = answer-value (c .before .before .zone-heard .ensures) whole in
     ⊎-elim
     (λ w.
@@ -97,7 +98,7 @@ counts c =
 
 loop-again : tie.Need-loop-again Inv-loop μ-loop
 loop-again c = let turn = counts c in
-    let at = c .before .before .before .before in (
+    let at = turnAt c in (
       rw total-more
           (turn .heard ∙ ap (λ (n : ℕ). n + heardIn (tableAt c) (indexAt c) (at .loop .j)) (at .loop .inv .0)),
       rw total-more

@@ -41,8 +41,12 @@ Inv-loop table groups₀ number heard₀ faulted₀ index₀ groups heard faulte
 abbrev μ-loop : tie.MeasureT-loop
 μ-loop table groups₀ number heard₀ faulted₀ index₀ groups heard faulted index = 16 - index
 
+-- the call, from past the test
+abbrev call : tie.Else1 Inv-loop μ-loop → tie.Start Inv-loop μ-loop
+call c = c .before .before .before
+
 -- past the test the table has its length
-entire : (c : tie.Else1 Inv-loop μ-loop) → length (c .before .before .before .args .table .now) ≡ tableBytes
+entire : (c : tie.Else1 Inv-loop μ-loop) → length (call c .args .table .now) ≡ tableBytes
 entire c = asked-whole _ (sym (c .before .refusal .ensures) ∙ c .if1 .left)
 
 -- a group's counts fit, so their sums do
@@ -50,7 +54,7 @@ small : (c : tie.After-group-at Inv-loop μ-loop)
     → Bounded (c .group-at .result .heard) (c .group-at .result .faulted) 16
 small c =
     let at = c .before .before in
-    let b = group-bounded (at .before .before .before .before .args .table .now) (suc (at .loop .index)) in
+    let b = group-bounded (call (at .before) .args .table .now) (suc (at .loop .index)) in
     let h = ap (λ (g : Counted). g .heard) (c .group-at .ensures) in
     let f = ap (λ (g : Counted). g .faulted) (c .group-at .ensures) in
     record { among = omega arith; few = omega arith }
@@ -100,7 +104,7 @@ stored l i g h = rw (add-one, take-suc-set) (map-append groupValues (take i l) (
 loop-again : tie.Need-loop-again Inv-loop μ-loop
 loop-again c =
     let at = c .before .before .before .before in
-    let t = at .before .before .before .before .args .table .now in
+    let t = call (at .before) .args .table .now in
     let g = c .before .before .group-at .ensures in
     let b = small (c .before .before) in (
       stored (at .loop .groups) (at .loop .index) (c .before .before .group-at .result) (omega arith)
@@ -123,7 +127,7 @@ returns-2 c =
     let e : at .loop .index ≡ 16 = omega arith in
     let inv = rw e at (at .loop .inv) in
     let groups = rw (take-all 16 (at .loop .groups) (omega arith)) at (inv .0) in
-    simp (seen-whole (at .before .before .before .before .args .table .now) (entire (at .before)), map-map)
+    simp (seen-whole (call (at .before) .args .table .now) (entire (at .before)), map-map)
     (λ i. record { number = 0; groups = groups i; site = (c .with-share .ensures ∙ ap₂ counted (inv .1) (inv .2)) i })
 
 pub view-spec : {M : Type 1} → statement M
