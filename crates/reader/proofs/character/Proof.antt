@@ -18,12 +18,16 @@ use Rattle.reader.proofs.Functions.CodeSteps.{is-none}
 use Rattle.reader.proofs.character.Statement.{statement}
 use Rattle.reader.proofs.character.Tie as tie
 
+-- the call, from the digit
+abbrev call : tie.After-digit → tie.Start
+call c = c .before .before .before
+
 -- past the start and the stop a digit is due
-digit-here : (c : tie.After-digit) → let a = c .before .before .before .args in (bytes : List ℕ)
+digit-here : (c : tie.After-digit) → let a = call c .args in (bytes : List ℕ)
     → length bytes ≡ a .held
     → getD bytes 0 (a .first) ≡ a .first → stepIn (Open Ascii) (a .b) bytes ≡ takesDigit none bytes (valueOf (a .b))
 digit-here c bytes e f =
-    let a = c .before .before .before .args in
+    let a = call c .args in
     let due : 0 < length bytes → length bytes < a .first + 3 =
     ⊎-elim (λ w. omega arith) (λ w. omega arith) (c .before .if2 .came) in
     no-start (Open Ascii) bytes (a .b) (c .before .before .if1 .left) ∙ digit-due bytes (a .first) (a .b) f due
@@ -43,10 +47,11 @@ stops-requires c κs = search needs
 
 returns-2 : tie.Need-returns-2
 returns-2 c bytes e f =
-    let a = c .before .before .before .before .before .args in
+    let past = c .before .before .before .before in
+    let a = past .before .args in
     let some : 0 < length bytes = omega arith in
     let due : a .first + 3 ≤ length bytes = omega arith in
-    let none = no-start (Open Ascii) bytes (a .b) (c .before .before .before .before .if1 .left) in
+    let none = no-start (Open Ascii) bytes (a .b) (past .if1 .left) in
     rw (none, at-stop bytes (a .first) (a .b) some f due (c .before .if4 .taken))
     (c .stops .ensures bytes (stop-bound bytes (a .first) some f due))
 
@@ -55,10 +60,11 @@ says-requires c κs = search needs
 
 returns-3 : tie.Need-returns-3
 returns-3 c bytes e f =
-    let a = c .before .before .before .before .before .args in
+    let past = c .before .before .before .before in
+    let a = past .before .args in
     let some : 0 < length bytes = omega arith in
     let due : a .first + 3 ≤ length bytes = omega arith in
-    let none = no-start (Open Ascii) bytes (a .b) (c .before .before .before .before .if1 .left) in
+    let none = no-start (Open Ascii) bytes (a .b) (past .if1 .left) in
     rw (none, no-stop bytes (a .first) (a .b) some f due (c .before .if4 .left))
     (c .says .ensures bytes)
 
@@ -76,7 +82,7 @@ returns-4 c bytes e f =
     let d = c .before .before in
     rw (
       digit-here d bytes e f,
-      is-digit (d .before .before .before .args .b) (d .digit .result) (d .digit .ensures)
+      is-digit (call d .args .b) (d .digit .result) (d .digit .ensures)
           (c .before .if5 .taken),
     )
     (c .goes .ensures bytes e)
@@ -86,7 +92,7 @@ returns-5 c bytes e f =
     let d = c .before .before in
     rw (
       digit-here d bytes e f,
-      is-none (d .before .before .before .args .b) (d .digit .result) (d .digit .ensures)
+      is-none (call d .args .b) (d .digit .result) (d .digit .ensures)
           (c .before .if5 .left),
     )
     (c .says2 .ensures bytes)

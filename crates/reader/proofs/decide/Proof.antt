@@ -44,13 +44,13 @@ returns c bytes e f = rw (c .before .before .mode .given .1) (c .skipping .ensur
 
 returns-2 : tie.Need-returns-2
 returns-2 c bytes e f =
-    rw (c .before .before .before .before .mode2 .given .1, c .before .enum-told .given .1)
-    (c .binary .ensures bytes e f)
+    let arm = c .before .before .before .before in
+    rw (arm .mode2 .given .1, c .before .enum-told .given .1) (c .binary .ensures bytes e f)
 
 returns-3 : tie.Need-returns-3
 returns-3 c bytes e f =
-    rw (c .before .before .before .before .mode2 .given .1, c .before .enum-told2 .given .1)
-    (c .character .ensures bytes e f)
+    let arm = c .before .before .before .before in
+    rw (arm .mode2 .given .1, c .before .enum-told2 .given .1) (c .character .ensures bytes e f)
 
 returns-4 : tie.Need-returns-4
 returns-4 c bytes e f = rw (c .before .enum-told3 .given .1) (c .escaped .ensures bytes e f)

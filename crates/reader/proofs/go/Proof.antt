@@ -43,8 +43,11 @@ unfolding Whole
 held-there c = omega (arith, sound-held (current c) (c .loop .inv .sound), c .loop .inv .size)
 
 -- a turn of the loop, once it is decided
+abbrev in-loop : tie.After-decide Inv-loop μ-loop → tie.In-loop Inv-loop μ-loop
+in-loop c = c .before .before .before
+
 abbrev loop-of : tie.After-decide Inv-loop μ-loop → tie.At-loop Inv-loop μ-loop
-loop-of c = c .before .before .before .before
+loop-of c = in-loop c .before
 
 turn : (c : tie.After-decide Inv-loop μ-loop) → let l = loop-of c in
     Turn (given (start l)) (start l .args .bytes .now) (l .loop .i) (current l) (c .decide .result)
@@ -52,7 +55,7 @@ turn c =
     let l = loop-of c .loop in
     record {
       so-far = l .inv;
-      inside = c .before .before .before .loop-test .taken;
+      inside = in-loop c .loop-test .taken;
       done = c .decide .ensures _ (length-take-le (l .held) (l .frame) (held-there (loop-of c)))
           (first-held (l .frame) (l .held));
     }
@@ -73,25 +76,32 @@ sized c = ap length (stored c) ∙ whole-after (turn (c .before))
 -- after a byte that said nothing
 abbrev Quiet : tie.After-enum-told Inv-loop μ-loop → Type 0
 Quiet c =
-    let d = c .before .before .before in
+    let kept = c .before .before in
+    let d = kept .before in
     let l = loop-of d in
     SoFar (given (start l)) (start l .args .bytes .now) (l .loop .i + 1)
-    (record { mode = d .decide .result .mode; held = d .decide .result .held; bytes = c .before .before .if1 .frame })
+    (record { mode = d .decide .result .mode; held = d .decide .result .held; bytes = kept .if1 .frame })
 
 quiet : (c : tie.After-enum-told Inv-loop μ-loop) → Quiet c
-quiet c = rw (stored (c .before .before)) (goes-on (turn (c .before .before .before)) (c .enum-told .given .1))
+quiet c = let kept = c .before .before in rw (stored kept) (goes-on (turn (kept .before)) (c .enum-told .given .1))
 
 -- and after the plain bytes that follow it
+abbrev decided : tie.After-take Inv-loop μ-loop → tie.After-decide Inv-loop μ-loop
+decided c = c .before .before .before .before .before .before
+
+abbrev past-plain : tie.After-struct-known Inv-loop μ-loop → tie.After-take Inv-loop μ-loop
+past-plain c = c .before .before .before
+
 abbrev after : tie.After-take Inv-loop μ-loop → Reader
 after c =
-    let d = c .before .before .before .before .before .before .decide .result in
+    let d = decided c .decide .result in
     record { mode = d .mode; held = d .held + c .take .result .count; bytes = c .take .last .1 .1 .0 }
 
-went : (c : tie.After-take Inv-loop μ-loop) → let l = loop-of (c .before .before .before .before .before .before) in
+went : (c : tie.After-take Inv-loop μ-loop) → let l = loop-of (decided c) in
     SoFar (given (start l)) (start l .args .bytes .now) (l .loop .i + 1 + c .take .result .used) (after c)
 went c =
     let q = c .before .before .before in
-    let l = loop-of (q .before .before .before) in
+    let l = loop-of (decided c) in
     let bytes = start l .args .bytes .now in
     let at = l .loop .i + 1 in
     let rest : take (length bytes - at) (drop at bytes) ≡ drop at bytes =
@@ -124,7 +134,7 @@ slice-write-frame c = room (turn (c .before)) (c .if1 .taken)
 
 add-i : tie.Need-add-i Inv-loop μ-loop
 add-i c =
-    let l = loop-of (c .before) in omega (arith, c .before .before .before .before .loop-test .taken, start l .good)
+    let d = c .before in omega (arith, in-loop d .loop-test .taken, start (loop-of d) .good)
 
 enum-told : tie.Need-enum-told Inv-loop μ-loop
 enum-told c = search needs
@@ -142,21 +152,20 @@ take-requires : tie.Need-take-requires Inv-loop μ-loop
 take-requires c κs = tt
 
 add-held : tie.Need-add-held Inv-loop μ-loop
-add-held c = let t = c .before .before .before in omega (arith, sound-held (after t) (went t .sound))
+add-held c = let t = past-plain c in omega (arith, sound-held (after t) (went t .sound))
 
 add-i-2 : tie.Need-add-i-2 Inv-loop μ-loop
 add-i-2 c =
-    let t = c .before .before .before .before in
-    let l = loop-of (t .before .before .before .before .before .before) in
+    let t = past-plain (c .before) in
+    let l = loop-of (decided t) in
     omega (arith, went t .within, start l .good)
 
 loop-less : tie.Need-loop-less Inv-loop μ-loop
 loop-less c =
-    let t = c .before .before .before .before in
-    omega (arith, t .before .before .before .before .before .before .before .before .before .loop-test .taken)
+    let d = decided (past-plain (c .before)) in omega (arith, in-loop d .loop-test .taken)
 
 loop-again : tie.Need-loop-again Inv-loop μ-loop
-loop-again c = went (c .before .before .before .before)
+loop-again c = went (past-plain (c .before))
 
 enum-told-2 : tie.Need-enum-told-2 Inv-loop μ-loop
 enum-told-2 c = search needs
@@ -169,14 +178,14 @@ gives-requires c κs = tt
 
 same-length : tie.Need-same-length Inv-loop μ-loop
 same-length c =
-    let d = c .before .before .before .before .before in sized (c .before .before .before .before)
-    ∙ sym (start (loop-of d) .pre .0)
+    let j = c .before .before .before .before in sized j ∙ sym (start (loop-of (j .before)) .pre .0)
 
 returns : tie.Need-returns Inv-loop μ-loop
 returns c =
-    let j = c .before .before .before .before in
+    let told = c .before .before in
+    let j = told .before .before in
     rw (c .gives .ensures, stored j)
-    (reads-number (turn (j .before)) (c .before .before .enum-told2 .given .1) (c .before .plain .result)
+    (reads-number (turn (j .before)) (told .enum-told2 .given .1) (c .before .plain .result)
     (c .before .plain .ensures))
 
 enum-told-3 : tie.Need-enum-told-3 Inv-loop μ-loop
@@ -194,10 +203,11 @@ same-length-2 c =
 
 returns-2 : tie.Need-returns-2 Inv-loop μ-loop
 returns-2 c =
-    let j = c .before .before .before .before .before in
+    let told = c .before .before .before in
+    let j = told .before .before in
     let said = c .before .judge .ensures ∙ ap (λ f. saidOf (judgedFrame f)) (stored j) in
     rw (c .gives2 .ensures, stored j)
-    (reads-judged (turn (j .before)) (c .before .before .before .enum-told3 .given .1) (c .before .judge .result) said)
+    (reads-judged (turn (j .before)) (told .enum-told3 .given .1) (c .before .judge .result) said)
 
 gives-requires-3 : tie.Need-gives-requires-3 Inv-loop μ-loop
 gives-requires-3 c κs = tt

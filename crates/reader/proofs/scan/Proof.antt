@@ -12,6 +12,10 @@ use Rattle.reader.proofs.scan.Tie as tie
 abbrev given : tie.Start → Reader
 given s = record { mode = s .args .from; held = s .args .count; bytes = s .args .frame .now }
 
+-- the call, from past the test of the array
+abbrev call : tie.Else1 → tie.Start
+call c = c .before .before .before
+
 plain-requires : tie.Need-plain-requires
 plain-requires c κs = search needs
 
@@ -38,27 +42,26 @@ gives-requires-2 c κs = search needs
 
 returns-2 : tie.Need-returns-2
 returns-2 c =
-    let s = c .before .before .before .before .before .before .before .before in
-    let sound = sym (c .before .before .before .sound .ensures) ∙ not-true _ (c .before .before .if2 .taken) in
+    let state = c .before .before .before in
+    let array = state .before .before in
+    let s = call array in
+    let sound = sym (state .sound .ensures) ∙ not-true _ (c .before .before .if2 .taken) in
     rw (c .gives2 .ensures)
-    (lent-unsound (given s) (s .args .bytes .now) _ (c .before .plain2 .ensures)
-    (c .before .before .before .before .before .if1 .left) sound)
+    (lent-unsound (given s) (s .args .bytes .now) _ (c .before .plain2 .ensures) (array .if1 .left) sound)
 
 go-requires : tie.Need-go-requires
-go-requires c κs = (
-  c .before .before .before .before .if1 .left,
-  sym (c .before .before .sound .ensures)
-      ∙ not-false _ (c .before .if2 .left),
-)
+go-requires c κs =
+    let array = c .before .before .before .before in
+    (array .if1 .left, sym (c .before .before .sound .ensures) ∙ not-false _ (c .before .if2 .left))
 
 same-length : tie.Need-same-length
 same-length c = search needs
 
 returns-3 : tie.Need-returns-3
 returns-3 c =
-    let s = c .before .before .before .before .before .before .before .before .before .before in
-    lent-reads (given s) (s .args .bytes .now) _ _ _
-    (c .before .before .before .before .before .before .before .if1 .left) (c .before .before .go .ensures)
+    let array = c .before .before .before .before .before .before .before in
+    let s = call array in
+    lent-reads (given s) (s .args .bytes .now) _ _ _ (array .if1 .left) (c .before .before .go .ensures)
 
 pub scan-spec : {M : Type 1} → statement M
 scan-spec =

@@ -22,7 +22,9 @@ enum-told-3 : tie.Need-enum-told-3
 enum-told-3 c = search needs
 
 returns : tie.Need-returns
-returns c = rw (c .before .before .before .mode .given .1, ← c .before .start-of .ensures) (c .before-start .ensures)
+returns c =
+    let arm = c .before .before .before in
+    rw (arm .mode .given .1, ← c .before .start-of .ensures) (c .before-start .ensures)
 
 returns-2 : tie.Need-returns-2
 returns-2 c = search needs

@@ -32,14 +32,14 @@ add-if3 c = search needs
 
 returns-2 : tie.Need-returns-2
 returns-2 c =
-    let a = c .before .before .before .before .before .args in
+    let known = c .before .before .before in
+    let some = known .before in
+    let a = some .before .args in
     let most = a .first + beyondLength (a .mode) in
     let more : most < a .held = omega (arith, c .before .beyond-length .ensures) in
     rw (
-      ne-eqb (a .held) 0 (c .before .before .before .before .if1 .taken),
-      sym
-          (c .before .before .before .length-ok .ensures)
-          ∙ not-false _ (c .before .before .if2 .left),
+      ne-eqb (a .held) 0 (some .if1 .taken),
+      sym (known .length-ok .ensures) ∙ not-false _ (c .before .before .if2 .left),
       lt-leb (a .held) most more,
     )
 

@@ -22,7 +22,9 @@ same-length : tie.Need-same-length
 same-length c = search needs
 
 returns : tie.Need-returns
-returns c = rw (c .before .before .before .before .before .mode .given .1) (c .before .before .take-plain .ensures)
+returns c =
+    let arm = c .before .before .before .before .before in
+    rw (arm .mode .given .1) (c .before .before .take-plain .ensures)
 
 returns-2 : tie.Need-returns-2
 returns-2 c = rw (c .enum-told .given .1) (search needs)

@@ -17,8 +17,9 @@ holds-requires c κs = search needs
 
 returns : tie.Need-returns
 returns c bytes e f =
-    let a = c .before .before .before .before .args in
-    rw (takes-length (a .framing) bytes (a .x) (e ∙ c .before .before .before .if1 .taken)
+    let first = c .before .before .before in
+    let a = first .before .args in
+    rw (takes-length (a .framing) bytes (a .x) (e ∙ first .if1 .taken)
     (sym (c .before .before .length-ok .ensures) ∙ c .before .if2 .taken))
     (c .holds .ensures bytes e)
 
@@ -27,8 +28,9 @@ says-requires c κs = search needs
 
 returns-2 : tie.Need-returns-2
 returns-2 c bytes e f =
-    let a = c .before .before .before .before .args in
-    rw (takes-none (a .framing) bytes (a .x) (e ∙ c .before .before .before .if1 .taken)
+    let first = c .before .before .before in
+    let a = first .before .args in
+    rw (takes-none (a .framing) bytes (a .x) (e ∙ first .if1 .taken)
     (sym (c .before .before .length-ok .ensures) ∙ c .before .if2 .left))
     (c .says .ensures bytes)
 
@@ -68,9 +70,9 @@ returns-4 c bytes e f =
 
 returns-5 : tie.Need-returns-5
 returns-5 c bytes e f =
+    let call = c .before .before .before .before in
     let told = c .before .enum-told2 .given .1 in
-    rw (told, takes-ascii bytes (c .before .before .before .before .args .x) (omega arith))
-    (rw told at (c .holds3 .ensures bytes e))
+    rw (told, takes-ascii bytes (call .args .x) (omega arith)) (rw told at (c .holds3 .ensures bytes e))
 
 pub takes-spec : {M : Type 1} → statement M
 takes-spec =
