@@ -39,7 +39,8 @@ not-refused t m h =
     taken-says (taken t m (eqb-true (length t) tableBytes (b .0)) (b .1))
 
 slice-aggregate-stores : tie.Need-slice-aggregate-stores
-slice-aggregate-stores c = ap length (sym (take-length (c .before .before .before .before .args .message .now)))
+slice-aggregate-stores c =
+    let call = c .before .before .before .before in ap length (sym (take-length (call .args .message .now)))
 
 stores-requires : tie.Need-stores-requires
 stores-requires c κs = search needs
@@ -58,7 +59,8 @@ refusal-requires : tie.Need-refusal-requires
 refusal-requires c κs = search needs
 
 slice-aggregate-check : tie.Need-slice-aggregate-check
-slice-aggregate-check c = ap length (sym (take-length (messageOf (c .before .before .before .before .before .before))))
+slice-aggregate-check c =
+    let at = c .before .before .before .before .before .before in ap length (sym (take-length (messageOf at)))
 
 check-requires : tie.Need-check-requires
 check-requires c κs = search needs

@@ -75,8 +75,8 @@ returns : tie.Need-returns
 unfolding writesOf
 returns c =
     let call = c .before .before in
-    call .put-zone .ensures
-    ∙ sym (taken-leaves (is (call .before .before .before) (call .before .before .match .keys1)))
+    let arm = call .before .before in
+    call .put-zone .ensures ∙ sym (taken-leaves (is (arm .before) (arm .match .keys1)))
 
 same-length-2 : tie.Need-same-length-2
 same-length-2 c = search needs
@@ -85,8 +85,8 @@ returns-2 : tie.Need-returns-2
 unfolding writesOf
 returns-2 c =
     let call = c .before .before in
-    call .put-zones .ensures
-    ∙ sym (taken-leaves (is (call .before .before .before) (call .before .before .match .keys2)))
+    let arm = call .before .before in
+    call .put-zones .ensures ∙ sym (taken-leaves (is (arm .before) (arm .match .keys2)))
 
 same-length-3 : tie.Need-same-length-3
 same-length-3 c = search needs
@@ -95,8 +95,8 @@ returns-3 : tie.Need-returns-3
 unfolding writesOf
 returns-3 c =
     let call = c .before .before in
-    call .put-partition .ensures
-    ∙ sym (taken-leaves (is (call .before .before .before) (call .before .before .match .keys3)))
+    let arm = call .before .before in
+    call .put-partition .ensures ∙ sym (taken-leaves (is (arm .before) (arm .match .keys3)))
 
 same-length-4 : tie.Need-same-length-4
 same-length-4 c = search needs
@@ -105,8 +105,8 @@ returns-4 : tie.Need-returns-4
 unfolding writesOf
 returns-4 c =
     let call = c .before .before in
-    call .put-partitions .ensures
-    ∙ sym (taken-leaves (is (call .before .before .before) (call .before .before .match .keys4)))
+    let arm = call .before .before in
+    call .put-partitions .ensures ∙ sym (taken-leaves (is (arm .before) (arm .match .keys4)))
 
 same-length-5 : tie.Need-same-length-5
 same-length-5 c = search needs
@@ -115,7 +115,8 @@ returns-5 : tie.Need-returns-5
 unfolding writesOf
 returns-5 c =
     let call = c .before .before in
-    call .put-system .ensures ∙ sym (taken-leaves (is (call .before .before .before) (system (call .before .before))))
+    let arm = call .before .before in
+    call .put-system .ensures ∙ sym (taken-leaves (is (arm .before) (system arm)))
 
 pub put-spec : {M : Type 1} → statement M
 put-spec =

@@ -18,6 +18,10 @@ Inv-loop table₀ message p₀ table p =
 abbrev μ-loop : tie.MeasureT-loop
 μ-loop table₀ message p₀ table p = 8 - p
 
+-- the call, from a turn
+abbrev call : tie.At-loop Inv-loop μ-loop → tie.Start Inv-loop μ-loop
+call c = c .before .before .before
+
 loop-holds : tie.Need-loop-holds Inv-loop μ-loop
 unfolding flatMap upTo doneAll
 loop-holds c = (refl, omega arith, omega arith)
@@ -52,7 +56,7 @@ loop-less c = omega arith
 loop-again : tie.Need-loop-again Inv-loop μ-loop
 loop-again c =
     let at = c .before .before .before .before in
-    let a = at .before .before .before .args in
+    let a = call at .args in
     let m = a .message .now in
     let p = at .loop .p in
     let e : 1 + p ≡ 2 + p - 1 = omega arith in (
@@ -68,7 +72,7 @@ same-length c = omega arith
 returns : tie.Need-returns Inv-loop μ-loop
 returns c =
     let at = c .before in
-    let a = at .before .before .before .args in
+    let a = call at .args in
     let e : at .loop .p ≡ 8 = omega arith in
     at .loop .inv .0 ∙ ap (λ n. doneAll (flatMap (partitionShort (a .message .now)) (upTo n)) (a .table .now)) e
 

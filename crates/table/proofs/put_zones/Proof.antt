@@ -65,6 +65,10 @@ Inv-loop table₀ message first j₀ table j =
 abbrev μ-loop : tie.MeasureT-loop
 μ-loop table₀ message first j₀ table j = 8 - j
 
+-- the call, from a turn
+abbrev call : tie.At-loop Inv-loop μ-loop → tie.Start Inv-loop μ-loop
+call c = c .before .before .before .before
+
 shared-slice-read-first : tie.Need-shared-slice-read-first Inv-loop μ-loop
 shared-slice-read-first c = omega arith
 
@@ -127,10 +131,11 @@ loop-less : tie.Need-loop-less Inv-loop μ-loop
 loop-less c = omega arith
 
 loop-again : tie.Need-loop-again Inv-loop μ-loop
-loop-again c = let at = c .before .before .before .before .before in
-    let a = at .before .before .before .before .args in (
+loop-again c = let placed = c .before .before .before in
+    let at = placed .before .before in
+    let a = call at .args in (
       turn (a .table .now) (a .message .now) (at .loop .table) (at .loop .j) _ (at .loop .inv .0)
-          (c .before .before .before .zone-place .ensures),
+          (placed .zone-place .ensures),
       omega arith,
       simp length-set (at .loop .inv .2),
     )
@@ -140,7 +145,7 @@ same-length c = omega arith
 
 returns : tie.Need-returns Inv-loop μ-loop
 returns c = let at = c .before in
-    let a = at .before .before .before .before .args in
+    let a = call at .args in
     let e : 2 * at .loop .j ≡ 16 = omega arith in
     at .loop .inv .0 ∙ ap (after (a .table .now) (a .message .now)) e
 

@@ -18,6 +18,9 @@ use Rattle.table.proofs.stores.Tie as tie
 abbrev start : tie.After-refusal → tie.Start
 start c = c .before .before .before .before
 
+abbrev from-stored : tie.After-is-stored → tie.Start
+from-stored c = start (c .before .before .before)
+
 -- a table that is not refused is whole, and one that is refused is not
 whole : (c : tie.Else1) → isTable (start (c .before) .args .table .now) ≡ true
 whole c =
@@ -31,12 +34,11 @@ refused c =
     rw (sym (whole-is t) ∙ ne-eqb (tableRefusal t) 0 (λ z. c .if1 .taken (c .before .refusal .ensures ∙ z)))
 
 -- what is asked of the message, of all of it
-said : (c : tie.After-is-stored)
-    → c .is-stored .result ≡ storable (start (c .before .before .before) .args .message .now)
-said c = c .is-stored .ensures ∙ ap storable (take-length (start (c .before .before .before) .args .message .now))
+said : (c : tie.After-is-stored) → c .is-stored .result ≡ storable (from-stored c .args .message .now)
+said c = c .is-stored .ensures ∙ ap storable (take-length (from-stored c .args .message .now))
 
 both : (c : tie.After-is-stored)
-    → let s = start (c .before .before .before) in
+    → let s = from-stored c in
     (isTable (s .args .table .now) && storable (s .args .message .now)) ≡ c .is-stored .result
 both c = rw (whole (c .before .before)) (sym (said c))
 

@@ -7,6 +7,10 @@ use Rattle.standard.proofs.Questions.{asked-whole, answer-refused, answer-given
 use Rattle.table.proofs.zone_byte.Statement.{statement}
 use Rattle.table.proofs.zone_byte.Tie as tie
 
+-- what the table's own number says, from the read
+abbrev asked : tie.After-shared-slice-known2 → tie.After-refusal
+asked c = c .before .before .before
+
 refusal-requires : tie.Need-refusal-requires
 refusal-requires c κs = search needs
 
@@ -21,16 +25,16 @@ add-place c = search needs
 
 shared-slice-read-t10 : tie.Need-shared-slice-read-t10
 shared-slice-read-t10 c =
-    let start = c .before .before .before .before .before in
+    let start = asked c .before .before in
     let h =
     asked-whole (start .args .table .now)
-    (sym (c .before .before .before .refusal .ensures) ∙ c .before .before .if1 .left) in
+    (sym (asked c .refusal .ensures) ∙ c .before .before .if1 .left) in
     omega arith
 
 returns-2 : tie.Need-returns-2
 returns-2 c =
     rw (c .before .zone-place .ensures)
-    (answer-given (c .before .before .before .refusal .ensures) (c .before .before .if1 .left))
+    (answer-given (asked c .refusal .ensures) (c .before .before .if1 .left))
 
 pub zone-byte-spec : {M : Type 1} → statement M
 zone-byte-spec =

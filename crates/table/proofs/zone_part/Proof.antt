@@ -17,8 +17,8 @@ add-part-of c = search needs
 
 part-of-requires : tie.Need-part-of-requires
 part-of-requires c κs =
-    λ z. let h =
-    asked-whole (c .before .before .before .args .table .now) (sym (c .before .refusal .ensures) ∙ z) in omega arith
+    let call = c .before .before .before in
+    λ z. let h = asked-whole (call .args .table .now) (sym (c .before .refusal .ensures) ∙ z) in omega arith
 
 returns : tie.Need-returns
 returns c =
