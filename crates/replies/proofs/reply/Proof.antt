@@ -21,8 +21,9 @@ returns c =
 
 returns-2 : tie.Need-returns-2
 returns-2 c =
-    let t = c .before .before .before .before .args .type-byte in
-    rw (c .before .before .before .match .keys1)
+    let arm = c .before .before .before in
+    let t = arm .before .args .type-byte in
+    rw (arm .match .keys1)
     (c .good-reply .ensures
     ∙ sym (reply-good t (λ z. c .before .if1 .left (c .before .before .length-for .ensures ∙ z))))
 
