@@ -242,13 +242,11 @@ fn character(held: usize, first: u8, b: u8) -> Decision
     if b == 0x0A {
         return opens(Mode::Open(Framing::Ascii));
     }
-    if 0 < held {
-        if first as usize + 3 <= held {
-            if b == 0x0D {
-                return stops();
-            }
-            return says(Mode::Skipping(Framing::Ascii), 3);
+    if first as usize + 3 <= held {
+        if b == 0x0D {
+            return stops();
         }
+        return says(Mode::Skipping(Framing::Ascii), 3);
     }
     let d = frames::digit(b);
     if d < 16 {

@@ -4,7 +4,6 @@ use native.Mathlib.Omega.{arith}
 use mathlib.Core.Path.{_≡_, _∙_}
 use mathlib.Core.Option.{none}
 use mathlib.Core.List.{List}
-use mathlib.Core.Logic.{⊎-elim}
 use lib.ListN.{length, getD}
 use borrow.Author.Needs.{needs}
 use Rattle.standard.specs.declared.Framing.the-variants.{Ascii}
@@ -13,8 +12,7 @@ use Rattle.reader.specs.declared.Mode.the-variants.{Open}
 use Rattle.reader.specs.Step.{takesDigit}
 use Rattle.reader.specs.Decide.{stepIn}
 use Rattle.reader.proofs.Functions.CodeSteps.{at-start, no-start, at-stop, no-stop, stop-bound, digit-due}
-use Rattle.reader.proofs.Functions.CodeSteps.{is-digit}
-use Rattle.reader.proofs.Functions.CodeSteps.{is-none}
+use Rattle.reader.proofs.Functions.CodeSteps.{is-digit, is-none}
 use Rattle.reader.proofs.character.Statement.{statement}
 use Rattle.reader.proofs.character.Tie as tie
 
@@ -28,8 +26,7 @@ digit-here : (c : tie.After-digit) → let a = call c .args in (bytes : List ℕ
     → getD bytes 0 (a .first) ≡ a .first → stepIn (Open Ascii) (a .b) bytes ≡ takesDigit none bytes (valueOf (a .b))
 digit-here c bytes e f =
     let a = call c .args in
-    let due : 0 < length bytes → length bytes < a .first + 3 =
-    ⊎-elim (λ w. omega arith) (λ w. omega arith) (c .before .if2 .came) in
+    let due : 0 < length bytes → length bytes < a .first + 3 = λ w. omega (arith, c .before .if2 .left) in
     no-start (Open Ascii) bytes (a .b) (c .before .before .if1 .left) ∙ digit-due bytes (a .first) (a .b) f due
 
 opens-requires : tie.Need-opens-requires
@@ -39,20 +36,20 @@ returns : tie.Need-returns
 returns c bytes e f =
     rw (at-start (Open Ascii) bytes (c .before .before .args .b) (c .before .if1 .taken)) (c .opens .ensures bytes)
 
-add-if3 : tie.Need-add-if3
-add-if3 c = search needs
+add-if2 : tie.Need-add-if2
+add-if2 c = search needs
 
 stops-requires : tie.Need-stops-requires
 stops-requires c κs = search needs
 
 returns-2 : tie.Need-returns-2
 returns-2 c bytes e f =
-    let past = c .before .before .before .before in
+    let past = c .before .before .before in
     let a = past .before .args in
     let some : 0 < length bytes = omega arith in
     let due : a .first + 3 ≤ length bytes = omega arith in
     let none = no-start (Open Ascii) bytes (a .b) (past .if1 .left) in
-    rw (none, at-stop bytes (a .first) (a .b) some f due (c .before .if4 .taken))
+    rw (none, at-stop bytes (a .first) (a .b) some f due (c .before .if3 .taken))
     (c .stops .ensures bytes (stop-bound bytes (a .first) some f due))
 
 says-requires : tie.Need-says-requires
@@ -60,12 +57,12 @@ says-requires c κs = search needs
 
 returns-3 : tie.Need-returns-3
 returns-3 c bytes e f =
-    let past = c .before .before .before .before in
+    let past = c .before .before .before in
     let a = past .before .args in
     let some : 0 < length bytes = omega arith in
     let due : a .first + 3 ≤ length bytes = omega arith in
     let none = no-start (Open Ascii) bytes (a .b) (past .if1 .left) in
-    rw (none, no-stop bytes (a .first) (a .b) some f due (c .before .if4 .left))
+    rw (none, no-stop bytes (a .first) (a .b) some f due (c .before .if3 .left))
     (c .says .ensures bytes)
 
 digit-requires : tie.Need-digit-requires
@@ -83,7 +80,7 @@ returns-4 c bytes e f =
     rw (
       digit-here d bytes e f,
       is-digit (call d .args .b) (d .digit .result) (d .digit .ensures)
-          (c .before .if5 .taken),
+          (c .before .if4 .taken),
     )
     (c .goes .ensures bytes e)
 
@@ -93,7 +90,7 @@ returns-5 c bytes e f =
     rw (
       digit-here d bytes e f,
       is-none (call d .args .b) (d .digit .result) (d .digit .ensures)
-          (c .before .if5 .left),
+          (c .before .if4 .left),
     )
     (c .says2 .ensures bytes)
 
@@ -103,7 +100,7 @@ character-spec =
     (tie.spec
     opens-requires
     returns
-    add-if3
+    add-if2
     stops-requires
     returns-2
     says-requires
