@@ -278,9 +278,10 @@ fn judge_whole(frame: &[u8], length: u8) -> Said
         return plain(5);
     }
     let checked = messages::check(&frame[1..end]);
+    let type_byte = frame[1];
     Said::Gave(Verdict {
         number: checked,
-        type_byte: frame[1],
+        type_byte,
         length: if checked == 0 { length } else { 0 },
     })
 }

@@ -1,5 +1,5 @@
 -- `frames::judge_whole` meets its contract: the sums first, then the message. Assumes nothing.
-use Prim.Native.Nat.{_+_}
+use Prim.Native.Nat.{ℕ, _+_}
 use native.Mathlib.Omega.{arith}
 use mathlib.Core.Path.{_≡_, sym, ap, _∙_}
 use mathlib.Core.Bool.{cond}
@@ -109,22 +109,28 @@ part-check-end c = search needs
 check-requires : tie.Need-check-requires
 check-requires c κs = search needs
 
-shared-slice-read-t29 : tie.Need-shared-slice-read-t29
-shared-slice-read-t29 c = search needs
+shared-slice-read-type-byte : tie.Need-shared-slice-read-type-byte
+shared-slice-read-type-byte c = search needs
+
+-- the answer, with the length that a good message has
+said : (c : tie.After-check) (length : ℕ)
+    → let f = past-two (c .before .before) .args .frame .now in
+    cond (eqb (checked f) 0) (getD f 0 0) 0 ≡ length
+    → Gave (record { number = c .check .result; «type_byte» = getD f 1 0; length = length }) ≡ saidOf (judgedFrame f)
+said c length e = rw (number c, ← e) (verdict (c .before .before))
 
 returns-3 : tie.Need-returns-3
 returns-3 c =
-    let right = c .before .before .before .before in
-    let s = past-two right in
-    let n = number (c .before .before) in
-    rw (← s .pre .0, n)
-    (rw (eq-eqb (checked (s .args .frame .now)) 0 (sym n ∙ c .if3 .taken)) at (verdict right))
+    let message = c .before .before in
+    let s = past-two (message .before .before) in
+    let good = eq-eqb (checked (s .args .frame .now)) 0 (sym (number message) ∙ c .if3 .taken) in
+    said message (s .args .length) (rw good (s .pre .0))
 
 returns-4 : tie.Need-returns-4
 returns-4 c =
-    let right = c .before .before .before .before in
-    let n = number (c .before .before) in
-    rw n (rw (ne-eqb (checked (past-two right .args .frame .now)) 0 (λ e. c .if3 .left (n ∙ e))) at (verdict right))
+    let message = c .before .before in
+    let f = past-two (message .before .before) .args .frame .now in
+    said message 0 (rw (ne-eqb (checked f) 0 (λ e. c .if3 .left (number message ∙ e))))
 
 pub judge-whole-spec : {M : Type 1} → statement M
 judge-whole-spec =
@@ -145,6 +151,6 @@ judge-whole-spec =
     part-check-start
     part-check-end
     check-requires
-    shared-slice-read-t29
+    shared-slice-read-type-byte
     returns-3
     returns-4)
