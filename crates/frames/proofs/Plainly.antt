@@ -23,6 +23,10 @@ use Rattle.frames.specs.Plain.{orNone, digitIn, stands, standing, plainO
 use Rattle.frames.specs.Plain.{TakesPlain}
 use Rattle.frames.specs.Parts.{Next, Roomy, Lays}
 
+-- a character that is no digit is looked up as 16
+pub no-digit : (c : ℕ) → valueOf c ≡ none → digitIn c ≡ 16
+no-digit c e = ap orNone e
+
 -- ---- what some bytes begin with
 
 -- none that is plain, a byte that stands for itself, or two digits

@@ -65,6 +65,11 @@ readFrom r read = record { reader = readerAfter r (read .next) (read .kept); use
 unfoldable pub readOf : Reader → List ℕ → Given
 readOf r bs = cond (soundReader r) (readFrom r (scanOf (stateOf r) bs)) (notSound r)
 
+-- two answers one after the other, by what the first, of one byte, said: that one where it gave a verdict
+abbrev pub thenRead : List Handed → Given → Given → Given
+thenRead [] first later = record { reader = later .reader; used = suc (later .used); said = later .said }
+thenRead (h ∷ hs) first later = first
+
 -- ---- what is promised
 
 -- that an answer's reader and verdict are those of `a`: the verdict's numbers, and its message in the reader's array

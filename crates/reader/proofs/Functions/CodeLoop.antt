@@ -40,14 +40,14 @@ use Rattle.reader.specs.declared.Decision.{Decision}
 use Rattle.reader.specs.declared.Reader.{Reader}
 use Rattle.reader.specs.Step.{Step, beyondLength, goes, stepOf}
 use Rattle.reader.specs.Read.{readOn, scanOf, stateOf, soundReader, readerAfter, Given, notSound, readFrom}
-use Rattle.reader.specs.Read.{readOf, Gives, Reads, lentRead, Lent}
+use Rattle.reader.specs.Read.{readOf, thenRead, Gives, Reads, lentRead, Lent}
 use Rattle.reader.specs.Decide.{stepIn, keptBy, heldBy, saidBy, Bound, Done, skippedIn, TakesIn}
 use Rattle.reader.proofs.State.Soundness.{Few, Fits, reader-fits, few-held, sound-held}
 use Rattle.reader.proofs.Part.Frames.{length-snoc, by-test, whole-front}
 use Rattle.reader.proofs.State.Kept.{Quiet, keeps-step}
 use Rattle.reader.proofs.State.Arrays.{laid-front, length-laid, sound-with, again, lent-read, lent-none}
 use Rattle.reader.proofs.State.Arrays.{read-sound}
-use Rattle.reader.proofs.State.Arrays.{read-unsound, sound-read, Whole, whole-read, read-none, thenRead}
+use Rattle.reader.proofs.State.Arrays.{read-unsound, sound-read, Whole, whole-read, read-none}
 use Rattle.reader.proofs.State.Arrays.{read-steps}
 use Rattle.reader.proofs.State.Handing.{handed-from-verdict}
 use Rattle.reader.proofs.Functions.CodeSteps.{all-held, no-start}

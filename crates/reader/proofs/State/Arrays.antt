@@ -19,7 +19,7 @@ use Rattle.reader.specs.declared.Mode.{Mode}
 use Rattle.reader.specs.declared.Reader.{Reader}
 use Rattle.reader.specs.Step.{State, soundWith, stepOf}
 use Rattle.reader.specs.Read.{Read, scanOf, stateOf, soundReader, freshReader, readerAfter, Given, notSound}
-use Rattle.reader.specs.Read.{readFrom, readOf, Gives, Reads, lentRead, Lent}
+use Rattle.reader.specs.Read.{readFrom, readOf, thenRead, Gives, Reads, lentRead, Lent}
 use Rattle.reader.proofs.State.Soundness.{Fits, reader-fits, fits-sound, sound-held}
 use Rattle.reader.proofs.Part.Judging.{isOpen}
 use Rattle.reader.proofs.State.Kept.{Quiet, keeps-step, keeps-scan}
@@ -134,11 +134,6 @@ read-none r w h =
     (ap₂ (readerWith r) fits (laid-same (r .held) (r .bytes)))
 
 -- ---- `read` is `step` repeated up to the first verdict
-
--- an answer with a verdict, or the answer after it with one byte more
-abbrev pub thenRead : List Handed → Given → Given → Given
-thenRead [] first later = record { reader = later .reader; used = suc (later .used); said = later .said }
-thenRead (h ∷ hs) first later = first
 
 -- a read of one byte and more is the read of that byte, and then of the others where it said nothing
 abbrev Repeated : Reader → ℕ → List ℕ → Type 0
