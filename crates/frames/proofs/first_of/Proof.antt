@@ -9,21 +9,21 @@ use Rattle.frames.proofs.Plainly.{span-none, first-held, first-comes, n
 use Rattle.frames.proofs.first_of.Statement.{statement}
 use Rattle.frames.proofs.first_of.Tie as tie
 
--- the call, from the byte that was held
-abbrev from-held : tie.After-shared-slice-known4 → tie.Start
-from-held c = c .before .before .before .before .before
+-- the call, from before the first test
+abbrev call : tie.After-shared-slice-known3 → tie.Start
+call c = c .before .before .before
 
 shared-slice-read-result : tie.Need-shared-slice-read-result
-shared-slice-read-result c = omega (arith, from-held c .pre .1 .size)
+shared-slice-read-result c = omega (arith, call (c .before .before) .pre .1 .size)
 
 returns : tie.Need-returns
 returns c =
-    let s = from-held c in
+    let s = call (c .before .before) in
     first-held (s .args .held) (s .args .frame .now) _ (c .before .if1 .taken) (omega (arith, s .pre .1 .size))
 
 plain-at-requires : tie.Need-plain-at-requires
 plain-at-requires c κs =
-    let s = c .before .before .before .before in
+    let s = call (c .before) in
     (s .pre .0, omega (arith, span-none (s .args .framing)))
 
 cast-result : tie.Need-cast-result
@@ -31,15 +31,17 @@ cast-result c = search needs
 
 returns-2 : tie.Need-returns-2
 returns-2 c =
-    let a = c .before .before .before .before .before .before .args in
+    let none = c .before .before in
+    let a = call (none .before) .args in
     none-comes (a .framing) (a .held) (a .frame .now) (a .bytes .now) (c .before .plain-at .result)
-    (c .before .before .if1 .left) (c .before .plain-at .ensures) (c .if2 .taken)
+    (none .if1 .left) (c .before .plain-at .ensures) (c .if2 .taken)
 
 returns-3 : tie.Need-returns-3
 returns-3 c =
-    let a = c .before .before .before .before .before .before .args in
+    let none = c .before .before in
+    let a = call (none .before) .args in
     first-comes (a .framing) (a .held) (a .frame .now) (a .bytes .now) (c .before .plain-at .result)
-    (c .before .before .if1 .left) (c .before .plain-at .ensures) (c .if2 .left)
+    (none .if1 .left) (c .before .plain-at .ensures) (c .if2 .left)
 
 pub first-of-spec : {M : Type 1} → statement M
 first-of-spec =

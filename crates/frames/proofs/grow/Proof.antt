@@ -5,6 +5,10 @@ use Rattle.frames.proofs.Plainly.{run-grows, bad-grows}
 use Rattle.frames.proofs.grow.Statement.{statement}
 use Rattle.frames.proofs.grow.Tie as tie
 
+-- the call, from the length byte
+abbrev call : tie.After-first-of → tie.Start
+call c = c .before .before .before .before .before
+
 first-of-requires : tie.Need-first-of-requires
 first-of-requires c κs = search needs
 
@@ -13,8 +17,9 @@ length-ok-requires c κs = search needs
 
 run-requires : tie.Need-run-requires
 run-requires c κs =
-    let s = c .before .before .before .before .before .before .before .before in
-    (s .pre .0, sym (c .before .before .length-ok .ensures) ∙ c .before .if1 .taken, s .pre .1)
+    let known = c .before in
+    let s = call (known .before .before) in
+    (s .pre .0, sym (known .before .length-ok .ensures) ∙ known .if1 .taken, s .pre .1)
 
 same-length : tie.Need-same-length
 same-length c = search needs
@@ -23,7 +28,7 @@ returns : tie.Need-returns
 returns c =
     let known = c .before .before .before .before in
     let first = known .before .before in
-    let s = first .before .before .before .before .before in
+    let s = call first in
     let a = s .args in
     run-grows (a .framing) (a .held) (a .frame .now) (a .bytes .now) (first .first-of .result) _ _ (s .pre .1)
     (first .first-of .ensures) (sym (known .before .length-ok .ensures) ∙ known .if1 .taken)
@@ -34,7 +39,7 @@ same-length-2 c = search needs
 
 returns-2 : tie.Need-returns-2
 returns-2 c =
-    let a = c .before .before .before .before .before .before .before .args in
+    let a = call (c .before .before) .args in
     let first = c .before .before .first-of in
     bad-grows (a .framing) (a .held) (a .frame .now) (a .bytes .now) (first .result) (first .ensures)
     (sym (c .before .length-ok .ensures) ∙ c .if1 .left)

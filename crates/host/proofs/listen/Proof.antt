@@ -62,8 +62,9 @@ enum-known-said c = search needs
 
 store-requires : tie.Need-store-requires
 store-requires c κs =
-    let v = c .before .before .before .said .given in
-    let o = scanned (c .before .before .before) in
+    let known = c .before .before .before in
+    let v = known .said .given in
+    let o = scanned known in
     let s = start o in
     let sized = good-sized (given s) (s .args .bytes .now) (v .0 .0) (v .1) (o .scan .ensures .gives) in
     λ z. omega (arith, message-fits (v .0 .0) (v .1) (o .scan .ensures .gives), o .scan .kept .1 .1 .0, sized z)

@@ -9,6 +9,10 @@ use borrow.Author.Needs.{needs}
 use Rattle.host.proofs.store.Statement.{statement}
 use Rattle.host.proofs.store.Tie as tie
 
+-- the call, from past the test
+abbrev call : tie.Then1 → tie.Start
+call c = c .before .before .before .before
+
 cast-end : tie.Need-cast-end
 cast-end c = search needs
 
@@ -24,7 +28,7 @@ part-store-start c = search needs
 part-store-end : tie.Need-part-store-end
 part-store-end c =
     let test = c .before .before in
-    omega (arith, test .before .before .before .before .pre (test .if1 .taken))
+    omega (arith, call test .pre (test .if1 .taken))
 
 store-requires : tie.Need-store-requires
 store-requires c κs = search needs
@@ -37,7 +41,7 @@ unfolding tableAfter
 returns c =
     let put = c .before .before in
     let test = put .before .before .before .before in
-    let start = test .before .before .before .before in
+    let start = call test in
     let v = start .args .verdict in
     let same : v .length + 1 - 1 ≡ v .length = omega arith in
     put .store .ensures

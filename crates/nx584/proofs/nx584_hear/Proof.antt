@@ -55,8 +55,10 @@ same-length-2 c = search needs
 
 returns-2 : tie.Need-returns-2
 returns-2 c =
-    let reading = c .before .before .before .before .before .before in
-    let args = reading .before .before .before .before .before .before .args in
+    let stored = c .before .before .before .before in
+    let reading = stored .before .before in
+    let call = reading .before .before .before .before .before .before in
+    let args = call .args in
     let t = args .table .now in
     let read = reading .nx584-read .ensures in
     let a = cRead (args .reader) (args .bytes .now) in
@@ -68,7 +70,7 @@ returns-2 c =
     record {
       says = c .with-reply2 .ensures ∙ ap₂ withReply read reply ∙ sym (ap cHearing line);
       leaves =
-          c .before .before .before .before .store .ensures
+          stored .store .ensures
           ∙ ap (λ (x : CReading). cond (eqb (x .verdict) 0) (appliedTo t (take (x .length) (x .message))) t) read
           ∙ stored-c (args .reader) t (args .bytes .now)
           ∙ sym (ap (λ (x : CGiven). tableAfter t (x .said)) line);

@@ -10,14 +10,18 @@ use borrow.Author.Needs.{needs}
 use Rattle.nx584.proofs.nx584_partition.Statement.{statement}
 use Rattle.nx584.proofs.nx584_partition.Tie as tie
 
+-- the call, from the part
+abbrev call : tie.After-partition-part → tie.Start
+call c = c .before .before .before
+
 -- the record's bytes after the first copy
 filled : (c : tie.After-copy)
-    → (let args = c .before .before .before .before .before .args in
+    → (let args = call (c .before .before) .args in
     let refusal = partitionRefusal (args .table .now) (args .partition) in
     c .copy .last .1 .0 ≡ partUnless refusal 9 (partitionPart (args .table .now) (args .partition)))
 filled c =
     let part = c .before .before in
-    let args = part .before .before .before .args in
+    let args = call part .args in
     let t = args .table .now in
     let p = args .partition in
     let given = part .partition-part .ensures .gives in
@@ -32,7 +36,7 @@ slice-aggregate-copy c = search needs
 copy-requires : tie.Need-copy-requires
 copy-requires c κs =
     let part = c .before in
-    let s = part .before .before .before in
+    let s = call part in
     let t = s .args .table .now in
     let p = s .args .partition in
     let given = part .partition-part .ensures .gives in
@@ -67,8 +71,9 @@ returns c =
     let rest = drop 1 nine in
     let seven : length (take 7 rest) ≡ 7 = length-take-le 7 rest (omega (arith, length-drop 1 nine)) in
     let bytes = copied-all (take 7 rest) _ (omega (arith, seven)) (c .before .copy2 .ensures .1) in
-    let args = copy .before .before .before .before .before .args in
-    rw (copy .before .before .partition-part .ensures .says, bytes, filled copy)
+    let part = copy .before .before in
+    let args = call part .args in
+    rw (part .partition-part .ensures .says, bytes, filled copy)
     (partition-told (args .table .now) (args .partition))
 
 pub nx584-partition-spec : {M : Type 1} → statement M

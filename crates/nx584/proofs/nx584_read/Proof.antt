@@ -17,11 +17,14 @@ use Rattle.nx584.proofs.nx584_read.Statement.{statement}
 use Rattle.nx584.proofs.nx584_read.Tie as tie
 
 -- what was asked, the reader after the scan, and what the scan promises of it
+abbrev call : tie.After-scan → tie.Start
+call c = c .before .before .before .before .before .before .before
+
 abbrev asked : tie.After-scan → CReader
-asked c = c .before .before .before .before .before .before .before .args .reader
+asked c = call c .args .reader
 
 abbrev given : tie.After-scan → List ℕ
-given c = c .before .before .before .before .before .before .before .args .bytes .now
+given c = call c .args .bytes .now
 
 abbrev after : tie.After-scan → Reader
 after c = record { mode = c .scan .result .mode; held = c .scan .result .held; bytes = c .scan .last .1 .1 .0 }
@@ -37,8 +40,9 @@ told c =
     let r = readerFor (asked c) in
     let read = c .scan .result in
     let sized : length (r .bytes) ≡ longest + 3 = search needs in
+    let made = c .before .before .before .before .before in
     let lent : Lent r (given c) (after c) (read .used) (read .said) =
-    rw (c .before .before .before .before .before .reader-for .ensures) at (c .scan .ensures)
+    rw (made .reader-for .ensures) at (c .scan .ensures)
     in
     lent-is-read r (given c) (after c) (read .used) (read .said) sized lent
 
@@ -88,25 +92,28 @@ part-in-array-start c = search needs
 
 part-in-array-end : tie.Need-part-in-array-end
 part-in-array-end c =
-    let h = few (c .before .before) in
-    let size : length (c .before .before .before .before .scan .last .1 .1 .0) ≡ longest + 3 = search needs in
+    let numbers = c .before .before in
+    let h = few numbers in
+    let size : length (numbers .before .before .scan .last .1 .1 .0) ≡ longest + 3 = search needs in
     omega arith
 
 in-array-requires : tie.Need-in-array-requires
-in-array-requires c κs = let h = few (c .before .before .before) in simp length-take (omega arith)
+in-array-requires c κs =
+    let numbers = c .before .before .before in let h = few numbers in simp length-take (omega arith)
 
 took-requires : tie.Need-took-requires
-took-requires c κs = fits (c .before .before .before .before .before .before) .0
+took-requires c κs = let scan = c .before .before .before .before .before .before in fits scan .0
 
 returns-2 : tie.Need-returns-2
 returns-2 c =
-    let scan = c .before .before .before .before .before .before .before in
+    let numbers = c .before .before .before .before .before in
+    let scan = numbers .before .before in
     let r = after scan in
     let a = readOf (readerFor (asked scan)) (given scan) in
     let used = scan .scan .result .used in
     let said = scan .scan .result .said in
     let bytes = scan .scan .last .1 .1 .0 in
-    let n = c .before .before .before .before .before .numbers .ensures in
+    let n = numbers .numbers .ensures in
     let size : length bytes ≡ longest + 3 = search needs in
     let h = fits scan .1 in
     let message = rw n at (c .before .in-array .ensures) in

@@ -10,13 +10,17 @@ use borrow.Author.Needs.{needs}
 use Rattle.nx584.proofs.nx584_system.Statement.{statement}
 use Rattle.nx584.proofs.nx584_system.Tie as tie
 
+-- the call, from the part
+abbrev call : tie.After-system-part → tie.Start
+call c = c .before .before .before
+
 -- the record's bytes after the first copy
 filled : (c : tie.After-copy)
-    → (let t = c .before .before .before .before .before .args .table .now in
+    → (let t = call (c .before .before) .args .table .now in
     c .copy .last .1 .0 ≡ partUnless (tableRefusal t) 12 (systemPart t))
 filled c =
     let part = c .before .before in
-    let t = part .before .before .before .args .table .now in
+    let t = call part .args .table .now in
     let given = part .system-part .ensures .gives in
     part-copied (tableRefusal t) 12 (systemPart t) _ (system-sized t) given (c .copy .ensures .1)
 
@@ -29,7 +33,7 @@ slice-aggregate-copy c = search needs
 copy-requires : tie.Need-copy-requires
 copy-requires c κs =
     let part = c .before in
-    let t = part .before .before .before .args .table .now in
+    let t = call part .args .table .now in
     part-fits (tableRefusal t) 12 (systemPart t) _ (system-sized t) (part .system-part .ensures .gives)
 
 sub-copy : tie.Need-sub-copy
@@ -59,8 +63,8 @@ returns c =
     let all = take-all 11 (drop 1 twelve) (omega arith) in
     let bytes = copied-all (take 11 (drop 1 twelve)) _ (rw all (omega (arith, rest))) (c .before .copy2 .ensures .1)
     ∙ all in
-    rw (copy .before .before .system-part .ensures .says, bytes, filled copy)
-    (system-told (copy .before .before .before .before .before .args .table .now))
+    let part = copy .before .before in
+    rw (part .system-part .ensures .says, bytes, filled copy) (system-told (call part .args .table .now))
 
 pub nx584-system-spec : {M : Type 1} → statement M
 nx584-system-spec =

@@ -45,24 +45,25 @@ Inv-loop table groups₀ heard₀ faulted₀ index₀ groups heard faulted index
 abbrev μ-loop : tie.MeasureT-loop
 μ-loop table groups₀ heard₀ faulted₀ index₀ groups heard faulted index = 16 - index
 
+-- the table, from past the test
+abbrev tableOf : tie.Else1 Inv-loop μ-loop → List ℕ
+tableOf c = c .before .before .before .before .before .before .args .table .now
+
 -- past the test the table has its length
-whole : (c : tie.Else1 Inv-loop μ-loop)
-    → length (c .before .before .before .before .before .before .args .table .now) ≡ tableBytes
+whole : (c : tie.Else1 Inv-loop μ-loop) → length (tableOf c) ≡ tableBytes
 whole c = asked-whole _ (sym (c .before .before .zone-mark .ensures .says) ∙ c .if1 .left)
 
 -- a group of a whole table, and that its counts fit
-abbrev tableOf : tie.After-group Inv-loop μ-loop → List ℕ
-tableOf c = c .before .before .before .before .before .before .before .before .before .args .table .now
-
 counts : (c : tie.After-group Inv-loop μ-loop)
-    → groupValues (c .group .result) ≡ countedAt (tableOf c) (c .before .before .loop .index)
+    → let at = c .before .before in groupValues (c .group .result) ≡ countedAt (tableOf (at .before)) (at .loop .index)
 counts c =
-    rw (eq-eqb _ _ (whole (c .before .before .before)), lt-ltb _ _ (c .before .loop-test .taken)) at (c .group .ensures)
+    let inside = c .before in
+    rw (eq-eqb _ _ (whole (inside .before .before)), lt-ltb _ _ (inside .loop-test .taken)) at (c .group .ensures)
 
 small : (c : tie.After-group Inv-loop μ-loop) → Bounded (c .group .result .heard) (c .group .result .faulted) 16
 small c =
     let at = c .before .before in
-    let b = group-bounded (tableOf c) (suc (at .loop .index)) in
+    let b = group-bounded (tableOf (at .before)) (suc (at .loop .index)) in
     let h = ap (λ (g : Counted). g .heard) (counts c) in
     let f = ap (λ (g : Counted). g .faulted) (counts c) in
     record { among = omega arith; few = omega arith }
@@ -125,7 +126,7 @@ loop-again : tie.Need-loop-again Inv-loop μ-loop
 loop-again c =
     let group = c .before .before .before in
     let at = group .before .before in
-    let t = at .before .before .before .before .before .before .before .args .table .now in
+    let t = tableOf (at .before) in
     let g = counts group in
     let b = small group in (
       stored (at .loop .groups) (at .loop .index) (c .c-group2 .result) (omega arith)
@@ -148,7 +149,7 @@ c-group-requires-3 c κs = search needs
 returns-2 : tie.Need-returns-2 Inv-loop μ-loop
 returns-2 c =
     let at = c .before .before .before in
-    let t = at .before .before .before .before .before .before .before .args .table .now in
+    let t = tableOf (at .before) in
     let e : at .loop .index ≡ 16 = omega arith in
     let inv = rw e at (at .loop .inv) in
     let groups = sym (take-all 16 (at .loop .groups) (omega arith)) ∙ inv .0 in

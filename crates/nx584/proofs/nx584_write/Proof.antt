@@ -15,7 +15,8 @@ same-length c = search needs
 
 returns : tie.Need-returns
 returns c =
-    let w = rw (c .before .before .before .before .framing-for .ensures) at (c .before .before .write .ensures) in
+    let framed = c .before .before .before .before in
+    let w = rw (framed .framing-for .ensures) at (c .before .before .write .ensures) in
     record { says = ap cWritten (w .says); leaves = w .leaves }
 
 pub nx584-write-spec : {M : Type 1} → statement M

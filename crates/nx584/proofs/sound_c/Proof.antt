@@ -12,7 +12,8 @@ returns c = sym (no-mode (c .before .before .args .c) (c .if1 .taken))
 returns-2 : tie.Need-returns-2
 returns-2 c =
     let mode = c .before .before in
-    sym (no-digit (mode .before .before .before .before .args .c) (mode .if2 .taken) (c .if3 .taken))
+    let call = mode .before .before .before .before in
+    sym (no-digit (call .args .c) (mode .if2 .taken) (c .if3 .taken))
 
 sound-requires : tie.Need-sound-requires
 sound-requires c κs = search needs

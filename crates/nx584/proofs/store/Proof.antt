@@ -9,18 +9,22 @@ use Rattle.standard.specs.Messages.{longest}
 use Rattle.nx584.proofs.store.Statement.{statement}
 use Rattle.nx584.proofs.store.Tie as tie
 
+-- the call, from the message
+abbrev call : tie.After-store-arg → tie.Start
+call c = c .before .before .before .before .before .before
+
 cast-n : tie.Need-cast-n
 cast-n c = search needs
 
 array-share-prefix-message : tie.Need-array-share-prefix-message
 array-share-prefix-message c =
-    let s = c .before .before .before .before .before .before in
+    let s = call c in
     let size : length (s .args .reading .message) ≡ longest = search needs in
     omega (arith, s .pre)
 
 slice-aggregate-store : tie.Need-slice-aggregate-store
 slice-aggregate-store c =
-    let s = c .before .before .before .before .before .before .before in
+    let s = call (c .before) in
     let size : length (s .args .reading .message) ≡ longest = search needs in
     sym (length-take-le _ _ (omega (arith, s .pre)))
 
@@ -32,7 +36,8 @@ same-length c = search needs
 
 returns : tie.Need-returns
 returns c =
-    rw (eq-eqb _ _ (c .before .before .before .before .before .if1 .taken)) (c .before .before .store .ensures)
+    let test = c .before .before .before .before .before in
+    rw (eq-eqb _ _ (test .if1 .taken)) (c .before .before .store .ensures)
 
 returns-2 : tie.Need-returns-2
 returns-2 c = rw (ne-eqb _ _ (c .if1 .left))

@@ -11,12 +11,15 @@ use Rattle.standard.proofs.Questions.{asked-partition, partition-after, answer-
 use Rattle.table.proofs.partition_part.Statement.{statement}
 use Rattle.table.proofs.partition_part.Tie as tie
 
+-- the call, from the refusals
+abbrev call : tie.After-first-of → tie.Start
+call c = c .before .before .before .before
+
 -- the two refusals are asked in the definition's order
 number : (c : tie.After-first-of)
-    → let a = c .before .before .before .before .args in c .first-of .result
-    ≡ partitionRefusal (a .table .now) (a .partition)
+    → let a = call c .args in c .first-of .result ≡ partitionRefusal (a .table .now) (a .partition)
 number c =
-    let a = c .before .before .before .before .args in
+    let a = call c .args in
     c .first-of .ensures
     ∙ ap₂ (λ (x y : ℕ). cond (eqb x 0) y x) (c .before .before .refusal .ensures) (c .before .check-partition .ensures)
     ∙ sym (partition-after (a .table .now) (a .partition))
@@ -36,7 +39,7 @@ partition-place-requires c κs = search needs
 part-of-requires : tie.Need-part-of-requires
 part-of-requires c κs =
     λ z.
-    let a = c .before .before .before .before .before .args in
+    let a = call (c .before) .args in
     let h = asked-partition (a .table .now) (a .partition) (sym (number (c .before)) ∙ z) in
     omega arith
 

@@ -18,7 +18,9 @@ same-length : tie.Need-same-length
 same-length c = search needs
 
 returns : tie.Need-returns
-returns c = rw (one-digit _ (c .before .before .before .before .if1 .taken)) (c .before .before .put .ensures)
+returns c =
+    let test = c .before .before .before .before in
+    rw (one-digit _ (test .if1 .taken)) (c .before .before .put .ensures)
 
 add-put-2 : tie.Need-add-put-2
 add-put-2 c = search needs

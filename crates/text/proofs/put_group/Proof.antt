@@ -16,28 +16,44 @@ room : (s : tie.Start)
     a .place + (length (decimal (a .group)) + counts + 3) ≤ length (a .out .now)
 room s = omega (arith, counts-length (s .args .group) (s .args .heard) (s .args .faulted), s .pre)
 
+-- the call, from behind the group's number, and behind each field, from where the next is put
+abbrev call : tie.After-put-decimal → tie.Start
+call c = c .before .before .before
+
+abbrev at-group : tie.After-put-arg → tie.After-put-decimal
+at-group c = c .before .before .before
+
+abbrev at-gap : tie.After-put-decimal-arg2 → tie.After-put
+at-gap c = c .before .before .before
+
+abbrev at-heard : tie.After-put-faulted-arg → tie.After-put-decimal2
+at-heard c = c .before .before .before
+
+abbrev at-faulted : tie.After-put-arg2 → tie.After-put-faulted
+at-faulted c = c .before .before .before
+
 put-decimal-requires : tie.Need-put-decimal-requires
 put-decimal-requires c κs = omega (arith, room (c .before .before))
 
 put-requires : tie.Need-put-requires
 put-requires c κs =
-    let first = c .before .before .before in
-    omega (arith, room (first .before .before .before), first .put-decimal .ensures .end)
+    let first = at-group c in
+    omega (arith, room (call first), first .put-decimal .ensures .end)
 
 put-decimal-requires-2 : tie.Need-put-decimal-requires-2
 put-decimal-requires-2 c κs =
-    let second = c .before .before .before in
-    let first = second .before .before .before .before in
-    omega (arith, room (first .before .before .before), first .put-decimal .ensures .end, second .put .ensures .end)
+    let second = at-gap c in
+    let first = at-group (second .before) in
+    omega (arith, room (call first), first .put-decimal .ensures .end, second .put .ensures .end)
 
 put-faulted-requires : tie.Need-put-faulted-requires
 put-faulted-requires c κs =
-    let third = c .before .before .before in
-    let second = third .before .before .before .before in
-    let first = second .before .before .before .before in
+    let third = at-heard c in
+    let second = at-gap (third .before) in
+    let first = at-group (second .before) in
     omega (
       arith,
-      room (first .before .before .before),
+      room (call first),
       first .put-decimal .ensures .end,
       second .put .ensures .end,
       third .put-decimal2 .ensures .end,
@@ -45,13 +61,13 @@ put-faulted-requires c κs =
 
 put-requires-2 : tie.Need-put-requires-2
 put-requires-2 c κs =
-    let fourth = c .before .before .before in
-    let third = fourth .before .before .before .before in
-    let second = third .before .before .before .before in
-    let first = second .before .before .before .before in
+    let fourth = at-faulted c in
+    let third = at-heard (fourth .before) in
+    let second = at-gap (third .before) in
+    let first = at-group (second .before) in
     omega (
       arith,
-      room (first .before .before .before),
+      room (call first),
       first .put-decimal .ensures .end,
       second .put .ensures .end,
       third .put-decimal2 .ensures .end,
@@ -64,10 +80,10 @@ same-length c = search needs
 returns : tie.Need-returns
 returns c =
     let fifth = c .before .before in
-    let fourth = fifth .before .before .before .before in
-    let third = fourth .before .before .before .before in
-    let second = third .before .before .before .before in
-    let first = second .before .before .before .before in
+    let fourth = at-faulted (fifth .before) in
+    let third = at-heard (fourth .before) in
+    let second = at-gap (third .before) in
+    let first = at-group (second .before) in
     let heard = put-then (second .put .ensures) (third .put-decimal2 .ensures) in
     let counts = put-then (first .put-decimal .ensures) heard in
     put-then (put-then counts (fourth .put-faulted .ensures)) (fifth .put2 .ensures)

@@ -28,23 +28,30 @@ abbrev μ-loop : tie.MeasureT-loop
 abbrev noGroup : Group
 noGroup = record { heard = 0; faulted = 0; share = IsShare nan }
 
+abbrev viewed : tie.In-loop Inv-loop μ-loop → tie.After-view Inv-loop μ-loop
+viewed c = c .before .before .before
+
 abbrev start : tie.In-loop Inv-loop μ-loop → tie.Start Inv-loop μ-loop
-start c = c .before .before .before .before .before .before
+start c = viewed c .before .before .before
 
 abbrev tableIn : tie.In-loop Inv-loop μ-loop → List ℕ
 tableIn c = start c .args .table .now
 
 abbrev groupIn : tie.In-loop Inv-loop μ-loop → Group
-groupIn c = getD (c .before .before .before .view .result .groups) (c .before .loop .index) noGroup
+groupIn c = getD (viewed c .view .result .groups) (c .before .loop .index) noGroup
 
 -- its counts are the table's
 seen : (c : tie.In-loop Inv-loop μ-loop)
     → let k = suc (c .before .loop .index) in
     groupValues (groupIn c) ≡ counted (heardOf (tableIn c) k) (faultedOf (tableIn c) k)
 seen c =
-    let view = c .before .before .before .view in
+    let view = viewed c .view in
     let index = c .before .loop .index in
     group-told (tableIn c) (view .result) (view .ensures) (start c .pre .0) index (c .loop-test .taken) noGroup
+
+-- the turn, once its group is at hand
+abbrev turn : tie.After-struct-known Inv-loop μ-loop → tie.In-loop Inv-loop μ-loop
+turn c = c .before .before .before
 
 small : (c : tie.In-loop Inv-loop μ-loop) → Bounded (groupIn c .heard) (groupIn c .faulted) 16
 small c =
@@ -78,14 +85,14 @@ add-put-group : tie.Need-add-put-group Inv-loop μ-loop
 add-put-group c = omega arith
 
 cast-put-group : tie.Need-cast-put-group Inv-loop μ-loop
-cast-put-group c = let b = small (c .before .before .before) in omega arith
+cast-put-group c = let b = small (turn c) in omega arith
 
 cast-put-group-2 : tie.Need-cast-put-group-2 Inv-loop μ-loop
-cast-put-group-2 c = let b = small (c .before .before .before .before) in omega arith
+cast-put-group-2 c = let b = small (turn (c .before)) in omega arith
 
 put-group-requires : tie.Need-put-group-requires Inv-loop μ-loop
 put-group-requires c κs =
-    let o = c .before .before .before .before in
+    let o = turn (c .before) in
     let done = o .before .loop .inv .1 in
     let room = lines-room (groupLine (tableIn o)) (o .before .loop .index) (o .loop-test .taken) in
     omega (arith, done .end, put-length done, ap length (line o), room, start o .pre .1)

@@ -29,8 +29,9 @@ tableIn c = c .put-verdicts .last .1 .0
 
 heard : (c : tie.After-put-verdicts) → tableIn c ≡ tableAfter fresh (handedOf Binary (captureIn c))
 heard c =
+    let made = c .before .before .before in
     c .put-verdicts .ensures .1
-    ∙ ap (λ (t : List ℕ). tableAfter t (handedOf Binary (captureIn c))) (c .before .before .before .fresh .ensures)
+    ∙ ap (λ (t : List ℕ). tableAfter t (handedOf Binary (captureIn c))) (made .fresh .ensures)
 
 fit : (c : tie.After-put-verdicts)
     → length (linesOf (captureIn c)) + length (flatMap (groupLine (tableIn c)) groupNumbers) ≤ longestReport

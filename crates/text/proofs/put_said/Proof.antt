@@ -11,7 +11,8 @@ enum-known-said : tie.Need-enum-known-said
 enum-known-said c = search needs
 
 put-verdict-requires : tie.Need-put-verdict-requires
-put-verdict-requires c κs = rw (c .before .before .said .given .1) at (c .before .before .before .before .before .pre)
+put-verdict-requires c κs =
+    let call = c .before .before .before .before .before in rw (c .before .before .said .given .1) at (call .pre)
 
 returns : tie.Need-returns
 returns c = rw (c .enum-told .given .1) (put-none _ _)
@@ -22,7 +23,8 @@ same-length c = search needs
 returns-2 : tie.Need-returns-2
 returns-2 c =
     let put = c .before .before in
-    rw (put .before .before .before .said .given .1) (put .put-verdict .ensures)
+    let told = put .before .before .before in
+    rw (told .said .given .1) (put .put-verdict .ensures)
 
 pub put-said-spec : {M : Type 1} → statement M
 put-said-spec =

@@ -15,19 +15,32 @@ use Rattle.text.proofs.put_verdict.Tie as tie
 room : (s : tie.Start) → s .args .place + (length (decimal (s .args .verdict .number)) + 7) ≤ length (s .args .out .now)
 room s = omega (arith, line-length (handedWith (s .args .verdict)) (replyNumber (s .args .reply)), s .pre)
 
+-- the call, from behind the number, and behind each field, from where the next is put
+abbrev call : tie.After-put-decimal → tie.Start
+call c = c .before .before .before
+
+abbrev at-number : tie.After-put-type-arg → tie.After-put-decimal
+at-number c = c .before .before .before
+
+abbrev at-type : tie.After-put-reply-arg → tie.After-put-type
+at-type c = c .before .before .before
+
+abbrev at-reply : tie.After-put-arg → tie.After-put-reply
+at-reply c = c .before .before .before
+
 put-decimal-requires : tie.Need-put-decimal-requires
 put-decimal-requires c κs = omega (arith, room (c .before .before))
 
 put-type-requires : tie.Need-put-type-requires
 put-type-requires c κs =
-    let first = c .before .before .before in
-    omega (arith, room (first .before .before .before), first .put-decimal .ensures .end)
+    let first = at-number c in
+    omega (arith, room (call first), first .put-decimal .ensures .end)
 
 put-reply-requires : tie.Need-put-reply-requires
 put-reply-requires c κs =
-    let second = c .before .before .before in
-    let first = second .before .before .before .before in
-    let start = first .before .before .before in
+    let second = at-type c in
+    let first = at-number (second .before) in
+    let start = call first in
     omega (
       arith,
       room start,
@@ -38,10 +51,10 @@ put-reply-requires c κs =
 
 put-requires : tie.Need-put-requires
 put-requires c κs =
-    let third = c .before .before .before in
-    let second = third .before .before .before .before in
-    let first = second .before .before .before .before in
-    let start = first .before .before .before in
+    let third = at-reply c in
+    let second = at-type (third .before) in
+    let first = at-number (second .before) in
+    let start = call first in
     omega (
       arith,
       room start,
@@ -58,9 +71,9 @@ same-length c = search needs
 returns : tie.Need-returns
 returns c =
     let fourth = c .before .before in
-    let third = fourth .before .before .before .before in
-    let second = third .before .before .before .before in
-    let first = second .before .before .before .before in
+    let third = at-reply (fourth .before) in
+    let second = at-type (third .before) in
+    let first = at-number (second .before) in
     let fields = put-then (first .put-decimal .ensures) (second .put-type .ensures) in
     put-then (put-then fields (third .put-reply .ensures)) (fourth .put .ensures)
 

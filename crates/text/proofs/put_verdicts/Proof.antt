@@ -36,6 +36,9 @@ head c = c .before .before .before .before .before
 abbrev start : tie.At-loop Inv-loop μ-loop → tie.Start Inv-loop μ-loop
 start c = c .before .before .before .before
 
+abbrev listened : tie.After-put-said Inv-loop μ-loop → tie.After-listen Inv-loop μ-loop
+listened c = c .before .before .before .before .before .before
+
 -- what the call adds
 turned : (c : tie.After-listen Inv-loop μ-loop)
     → let a = start (head c) .args in
@@ -44,11 +47,12 @@ turned : (c : tie.After-listen Inv-loop μ-loop)
     (answer .said) (replyNumber (answer .reply)) (answer .used)
     (readerOf (answer .mode) (answer .held) (c .listen .last .1 .1 .0)) (c .listen .last .1 .1 .1 .0)
 turned c =
+    let inside = c .before .before .before .before in
     let loop = head c .loop in
     let s = start (head c) in
     let r = readerOf (loop .mode) (loop .held) (loop .frame) in
     turn (s .args .capture .now) (s .args .table .now) (loop .used) r (loop .table) (loop .inv .0) (s .pre .0)
-    (c .before .before .before .before .loop-test .taken) (c .listen .ensures)
+    (inside .loop-test .taken) (c .listen .ensures)
 
 loop-holds : tie.Need-loop-holds Inv-loop μ-loop
 unfolding flatMap
@@ -73,7 +77,8 @@ listen-requires : tie.Need-listen-requires Inv-loop μ-loop
 listen-requires c κs = tt
 
 add-used : tie.Need-add-used Inv-loop μ-loop
-add-used c = omega (arith, turned (c .before .before .before .before) .on .within)
+add-used c =
+    let o = c .before .before .before .before in omega (arith, turned o .on .within, start (head o) .good)
 
 put-said-requires : tie.Need-put-said-requires Inv-loop μ-loop
 put-said-requires c κs =
@@ -83,13 +88,13 @@ put-said-requires c κs =
 
 loop-less : tie.Need-loop-less Inv-loop μ-loop
 loop-less c =
-    let t = turned (c .before .before .before .before .before .before .before .before) in
+    let t = turned (listened (c .before .before)) in
     omega (arith, t .on .within, t .moves)
 
 loop-again : tie.Need-loop-again Inv-loop μ-loop
 loop-again c =
     let put = c .before .before in
-    let o = put .before .before .before .before .before .before in
+    let o = listened put in
     (turned o .on, rw (turned o .lines) (put-then (head o .loop .inv .1) (put .put-said .ensures)))
 
 same-length : tie.Need-same-length Inv-loop μ-loop

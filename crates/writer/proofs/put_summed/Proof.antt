@@ -29,6 +29,10 @@ abbrev μ-loop : tie.MeasureT-loop
 abbrev call : tie.After-add2 Inv-loop μ-loop → tie.Start Inv-loop μ-loop
 call c = c .before .before .before .before
 
+-- the turn in which a byte is put
+abbrev turn : tie.After-put-coded-arg Inv-loop μ-loop → tie.At-loop Inv-loop μ-loop
+turn c = c .before .before .before
+
 cast-add : tie.Need-cast-add Inv-loop μ-loop
 cast-add c = omega arith
 
@@ -50,9 +54,8 @@ shared-slice-read-b c = omega arith
 
 put-coded-requires : tie.Need-put-coded-requires Inv-loop μ-loop
 put-coded-requires c κs =
-    let turn = c .before .before .before in
-    let l = turn .loop in
-    let s = call (turn .before) in
+    let l = turn c .loop in
+    let s = call (turn c .before) in
     let f = s .args .framing in
     let m = s .args .message .now in
     let more = length-more f m (l .i) (omega arith) in
@@ -74,9 +77,9 @@ loop-less c = omega arith
 loop-again : tie.Need-loop-again Inv-loop μ-loop
 loop-again c =
     let put = c .before .before .before .before in
-    let turn = put .before .before .before .before in
-    let l = turn .loop in
-    let s = call (turn .before) in
+    let at = turn (put .before) in
+    let l = at .loop in
+    let s = call (at .before) in
     let m = s .args .message .now in
     let b = getD m (l .i) 0 in
     let before : Sums = record { one = l .one; two = l .two } in
