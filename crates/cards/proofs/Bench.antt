@@ -8,9 +8,18 @@ use Rattle.standard.specs.Framing.{unstuff, digitsOf, pairs}
 use Rattle.standard.specs.Judge.{wholeOf}
 use Rattle.standard.specs.Replies.{replyOf}
 use Rattle.standard.specs.Table.{fresh, storesFrom, writesOf, doneAll, applyRefusal, appliedTo, tableAfter}
-use Rattle.cards.specs.Cards.{cards, toldOf}
+use Rattle.standard.specs.Overview.{heardOf, faultedOf}
+use Rattle.standard.specs.Report.{reportOn, reportOf}
+use Rattle.cards.specs.Text.{characters}
+use Rattle.cards.specs.Cards.{cards, toldOf, capture, printed, ofLines}
 
 pub bench : map (λ c. toldOf (c .line)) cards ≡ map (λ c. c .told) cards
 unfolding cards flatMap upTo total prefixes sumsOf lengthFor valuesOk unstuff digitsOf pairs wholeOf replyOf fresh
     storesFrom writesOf doneAll applyRefusal appliedTo tableAfter
 bench = refl
+
+-- card 13, the only one that says what is printed
+pub report : reportOf capture ≡ ofLines printed
+unfolding ofLines characters reportOn heardOf faultedOf flatMap upTo total prefixes sumsOf lengthFor valuesOk unstuff
+    wholeOf replyOf fresh storesFrom writesOf doneAll applyRefusal appliedTo tableAfter
+report = refl

@@ -1,7 +1,9 @@
--- Document 01, "Bench cards": those marked P, and what `standard` says of the bytes of each. Assumes nothing.
+-- Document 01, "Bench cards": those marked P, and what `standard` says of the bytes of each; and card 13. Assumes
+-- nothing.
 use Prim.Native.Nat.{ℕ, suc, _+_}
+use Prim.Native.String.{String}
 use mathlib.Core.Bool.{cond}
-use mathlib.Core.List.{List, [], _∷_, flatMap, map}
+use mathlib.Core.List.{List, [], _∷_, _++_, flatMap, map}
 use lib.Dec.{eqb}
 use Rattle.standard.specs.declared.Framing.{Framing}
 use Rattle.standard.specs.declared.Framing.the-variants.{Binary, Ascii}
@@ -9,6 +11,7 @@ use Rattle.standard.specs.Words.{upTo}
 use Rattle.standard.specs.Stream.{handedOf}
 use Rattle.standard.specs.Replies.{replyOf}
 use Rattle.standard.specs.Table.{fresh, tableAfter, heardZone, zoneShort}
+use Rattle.cards.specs.Text.{characters}
 
 -- a card's bytes on the line
 pub record Line : Type 0 where
@@ -36,10 +39,17 @@ card f bytes verdicts replies zones = record {
 abbrev pub firstGroup : List (ℕ × ℕ)
 firstGroup = (1, 1) ∷ map (λ z. (z + 2, 0)) (upTo 15)
 
+-- the lines of cards 1 and 5, which stand in card 13 too
+abbrev pub line1 : List ℕ
+line1 = 0x7E ∷ 0x01 ∷ 0x1D ∷ 0x1E ∷ 0x1F ∷ []
+
+abbrev pub line5 : List ℕ
+line5 = 0x7E ∷ 0x0A ∷ 0x05 ∷ 0x00 ∷ 0x01 ∷ 0x00 ∷ 0x00 ∷ 0x00 ∷ 0x00 ∷ 0x00 ∷ 0x00 ∷ 0x00 ∷ 0x10 ∷ 0xA8 ∷ []
+
 unfoldable pub cards : List Card
 cards =
     -- 1 and 2
-    card Binary (0x7E ∷ 0x01 ∷ 0x1D ∷ 0x1E ∷ 0x1F ∷ []) (0 ∷ []) (0 ∷ []) []
+    card Binary line1 (0 ∷ []) (0 ∷ []) []
     ∷ card Ascii (0x0A ∷ 0x30 ∷ 0x31 ∷ 0x31 ∷ 0x44 ∷ 0x31 ∷ 0x45 ∷ 0x31 ∷ 0x46 ∷ 0x0D ∷ []) (0 ∷ []) (0 ∷ []) []
     -- 3: verdict 7 and not 5, so the sums are right
     ∷ card Binary (0x7E ∷ 0x07 ∷ 0x84 ∷ 0x09 ∷ 0x7D ∷ 0x5E ∷ 0x10 ∷ 0x58 ∷ 0x01 ∷ 0x00 ∷ 0x7C ∷ 0xD1 ∷ [])
@@ -48,7 +58,7 @@ cards =
     ∷ card Binary (0x7E ∷ 0x08 ∷ 0x84 ∷ 0x09 ∷ 0x7D ∷ 0x5E ∷ 0x10 ∷ 0x58 ∷ 0x00 ∷ 0x01 ∷ 0x00 ∷ 0x7D ∷ 0x5D ∷ 0x56 ∷ [])
     (0 ∷ []) (0x1D ∷ []) ((10, 1) ∷ [])
     -- 5
-    ∷ card Binary (0x7E ∷ 0x0A ∷ 0x05 ∷ 0x00 ∷ 0x01 ∷ 0x00 ∷ 0x00 ∷ 0x00 ∷ 0x00 ∷ 0x00 ∷ 0x00 ∷ 0x00 ∷ 0x10 ∷ 0xA8 ∷ [])
+    ∷ card Binary line5
     (0 ∷ []) (0 ∷ []) firstGroup
     -- 6
     ∷ card Binary (0x7E ∷ 0x01 ∷ 0x1D ∷ 0x1E ∷ 0x20 ∷ []) (5 ∷ []) (0x1E ∷ []) []
@@ -74,3 +84,21 @@ toldOf l =
       replies = map (λ h. replyOf (h .verdict) (h .typeByte)) hands;
       zones = heardWith (tableAfter fresh hands);
     }
+
+-- ---- card 13
+
+-- "`nxread` on card 5 then card 1"
+abbrev pub capture : List ℕ
+capture = line5 ++ line1
+
+-- what it "prints", in lines
+abbrev pub printed : List String
+printed =
+    "0 05 --" ∷ "0 1D --"
+    ∷ "1 16 1" ∷ "2 0 -9999" ∷ "3 0 -9999" ∷ "4 0 -9999" ∷ "5 0 -9999" ∷ "6 0 -9999" ∷ "7 0 -9999" ∷ "8 0 -9999"
+    ∷ "9 0 -9999" ∷ "10 0 -9999" ∷ "11 0 -9999" ∷ "12 0 -9999" ∷ "13 0 -9999" ∷ "14 0 -9999" ∷ "15 0 -9999"
+    ∷ "16 0 -9999" ∷ []
+
+-- "0Ah ends each line"
+unfoldable pub ofLines : List String → List ℕ
+ofLines lines = flatMap (λ line. characters line ++ (0x0A ∷ [])) lines

@@ -5,18 +5,18 @@ use native.Mathlib.Numerals.{add-one}
 use native.Mathlib.Omega.{arith}
 use mathlib.Core.Path.{_≡_, refl, sym, ap, _∙_}
 use mathlib.Core.Logic.{_⊎_, inl, inr}
-use mathlib.Core.Bool.{Bool, true, false, cond, _&&_}
+use mathlib.Core.Bool.{Bool, true, false, cond, _&&_, _||_}
 use mathlib.Core.Option.{Option, none, some}
 use mathlib.Core.List.{List, [], _∷_, _++_, cons≢nil}
-use lib.Dec.{leb}
+use lib.Dec.{eqb, leb, ltb}
 use lib.ListN.{length, getD, take, drop, set, length-take, length-drop, drop-of-length-le}
 use lib.Seq.{length-take-le, take-all, take-nil, drop-cons, drop-drop, paste, paste-zero, paste-suc}
-use borrow.Author.Tests.{le-leb, lt-leb}
+use borrow.Author.Tests.{eqb-true, eqb-false, ltb-false, lt-ltb, le-leb, lt-leb}
 use Rattle.standard.specs.declared.Framing.{Framing}
 use Rattle.standard.specs.declared.Framing.the-variants.{Binary, Ascii}
 use Rattle.standard.specs.Words.{laid}
 use Rattle.standard.specs.Messages.{longest, lengthOk}
-use Rattle.standard.specs.Framing.{valueOf, digitsOf, andDigit, pairs}
+use Rattle.standard.specs.Framing.{stuffed, valueOf, digitsOf, andDigit, pairs}
 use Rattle.standard.proofs.Messages.{length-ok}
 use Rattle.standard.proofs.Framings.{digit-value}
 use Rattle.frames.specs.Plain.{orNone, digitIn, stands, standing, plainOf, span, beyond, lengthOf, roomy, growth}
@@ -26,6 +26,24 @@ use Rattle.frames.specs.Parts.{Next, Roomy, Lays}
 -- a character that is no digit is looked up as 16
 pub no-digit : (c : ℕ) → valueOf c ≡ none → digitIn c ≡ 16
 no-digit c e = ap orNone e
+
+-- a byte stands exactly if it is sent as itself
+pub stands-sent : (b : ℕ) → stands b ≡ eqb (length (stuffed b)) 1
+stands-sent b = by-start (eqb b 0x7E) refl
+  where
+    above : (below : Bool) → ltb b 0x7D ≡ below → (b ≡ 0x7E → ⊥) → (b ≡ 0x7D → ⊥) → below || ltb 0x7E b ≡ true
+    above true e start escape = refl
+    above false e start escape = lt-ltb 0x7E b (omega (arith, ltb-false b 0x7D e, start, escape))
+
+    by-escape : (t : Bool) → eqb b 0x7D ≡ t → (b ≡ 0x7E → ⊥)
+        → stands b ≡ eqb (length (cond t (0x7D ∷ 0x5D ∷ []) (b ∷ []))) 1
+    by-escape true e start = ap stands (eqb-true b 0x7D e)
+    by-escape false e start = above (ltb b 0x7D) refl start (eqb-false b 0x7D e)
+
+    by-start : (t : Bool) → eqb b 0x7E ≡ t
+        → stands b ≡ eqb (length (cond t (0x7D ∷ 0x5E ∷ []) (cond (eqb b 0x7D) (0x7D ∷ 0x5D ∷ []) (b ∷ [])))) 1
+    by-start true e = ap stands (eqb-true b 0x7E e)
+    by-start false e = by-escape (eqb b 0x7D) refl (eqb-false b 0x7E e)
 
 -- ---- what some bytes begin with
 

@@ -419,10 +419,10 @@ pub extern "C" fn nx584_view(table: &[u8]) -> COverview
 {
     let none = c_group(overview::with_share(0, 0));
     let mut groups = [none; 16];
-    let first = table::zone_mark(table, 0);
-    if first.number != 0 {
+    let number = table::refusal(table);
+    if number != 0 {
         return COverview {
-            number: first.number,
+            number: number,
             groups: groups,
             site: none,
         };

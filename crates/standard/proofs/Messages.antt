@@ -4,7 +4,7 @@ use native.Mathlib.Nat.{mod-lt, le-trans}
 use native.Mathlib.Omega.{arith}
 use mathlib.Core.Path.{_≡_, refl, sym, ap, subst, _∙_}
 use mathlib.Core.Bool.{Bool, true, false, cond, not, _&&_}
-use mathlib.Core.List.{List, [], _∷_, _++_}
+use mathlib.Core.List.{List, [], _∷_, _++_, map}
 use mathlib.Core.Logic.{inl, inr}
 use lib.Dec.{eqb, leb, eqb→eq, leb→le, lit<}
 use lib.ListN.{length}
@@ -128,6 +128,13 @@ pub number-length : (n : ℕ) → n < 64 → lengthFor n ≡ lengthIn known n
 unfolding lengthFor
 number-length n h =
     eqb→eq (lengthFor n) (lengthIn known n) (below (λ k. eqb (lengthFor k) (lengthIn known k)) 64 tt n h)
+
+-- "The 41 messages": so many, and each is found under its own number
+pub known-41 : length known ≡ 41
+known-41 = refl
+
+pub known-once : map (λ row. lengthIn known (row .0)) known ≡ map (λ row. row .1) known
+known-once = refl
 
 -- "1 to 18": the longest of the 41 messages has the greatest of their lengths, and none is longer than what is read
 pub known-most : (n : ℕ) → n < 64 → lengthIn known n ≤ longestKnown

@@ -9,12 +9,12 @@ use mathlib.Core.Option.{Option, none, some}
 use mathlib.Core.List.{List, [], _∷_, _++_, map, flatMap, append-nil}
 use lib.Dec.{eqb, leb, ltb, eqb·suc-zero}
 use lib.ListN.{length, take, drop, replicate, length-append, length-take, length-replicate}
-use lib.Seq.{take-all}
+use lib.Seq.{take-all, take-append-seam}
 use borrow.Author.Tests.{lt-ltb, le-ltb, leb-true}
 use Rattle.standard.specs.declared.Framing.{Framing}
 use Rattle.standard.specs.declared.Framing.the-variants.{Binary, Ascii}
 use Rattle.standard.specs.Words.{upTo, total, firstOf}
-use Rattle.standard.specs.Messages.{lengthOk, messageTests}
+use Rattle.standard.specs.Messages.{lengthOk, among, messageTests}
 use Rattle.standard.specs.Framing.{startOf, unstuff, recovered, digitsOf, pairs}
 use Rattle.standard.specs.Judge.{Handed, handing, Judged, decided, unfinished, carriesType, sumsDiffer, wholeOf}
 use Rattle.standard.specs.Judge.{atStop, ended, stuck, plain, frameJudged, judge}
@@ -26,7 +26,7 @@ use Rattle.standard.proofs.Words.{flatMap-append}
 use Rattle.standard.proofs.Messages.{both-true}
 use Rattle.standard.proofs.Judge.{unstuff-fault}
 use Rattle.standard.specs.Report.{mostRead, decimal, typeText, replyText, lineWith, verdictLine, countsLine}
-use Rattle.standard.specs.Report.{groupLine, reportOn, reportOf, longestReport}
+use Rattle.standard.specs.Report.{groupLine, reportOn, reportOf, longestReport, reportedOf, afterReport}
 
 -- lines of which each has at most so many bytes
 flatMap-le : {A : Type 0} (f : A → List ℕ) (most : A → ℕ) → ((x : A) → length (f x) ≤ most x) → (l : List A)
@@ -249,3 +249,22 @@ no-less n h = by-starts (mostRead - 1) refl
   where
     by-starts : (k : ℕ) → suc k ≡ mostRead → longestReport ≤ n
     by-starts k e = omega (arith, room-reached k e, h (replicate (suc k) 0x7E))
+
+-- ---- in a lent buffer
+
+-- one that is shorter than the longest report is refused, and left
+pub report-refused : (capture out : List ℕ) → length out < longestReport
+    → (reportedOf capture out ≡ record { number = 9; length = 0 }) × (afterReport capture out ≡ out)
+report-refused capture out h = rw (lt-ltb (length out) longestReport h) (refl, refl)
+
+-- any other begins with the report, whose length is said
+pub report-begins : (capture out : List ℕ) → longestReport ≤ length out
+    → (reportedOf capture out .number ≡ 0)
+    × (take (reportedOf capture out .length) (afterReport capture out) ≡ reportOf capture)
+report-begins capture out h =
+    rw (le-ltb (length out) longestReport h) (refl, take-append-seam (reportOf capture) _)
+
+-- "for 0, 6, 7, 8", of all verdicts and refusals
+pub carriers : map carriesType (upTo 15) ≡ map (λ v. among v (0 ∷ 6 ∷ 7 ∷ 8 ∷ [])) (upTo 15)
+unfolding upTo
+carriers = refl

@@ -33,7 +33,7 @@ abbrev groupAt : List ℕ → ℕ → CGroup
 groupAt t i = cGroup (countedAt t i)
 
 abbrev Inv-loop : tie.InvT-loop
-Inv-loop table groups₀ heard₀ faulted₀ index₀ groups heard faulted index =
+Inv-loop table number groups₀ heard₀ faulted₀ index₀ groups heard faulted index =
     (take index groups ≡ map (groupAt table) (upTo index))
     × (heard ≡ total (map (heardAt table) (upTo index)))
     × (faulted ≡ total (map (faultedAt table) (upTo index)))
@@ -43,15 +43,15 @@ Inv-loop table groups₀ heard₀ faulted₀ index₀ groups heard faulted index
     × (length groups ≡ 16)
 
 abbrev μ-loop : tie.MeasureT-loop
-μ-loop table groups₀ heard₀ faulted₀ index₀ groups heard faulted index = 16 - index
+μ-loop table number groups₀ heard₀ faulted₀ index₀ groups heard faulted index = 16 - index
 
 -- the table, from past the test
 abbrev tableOf : tie.Else1 Inv-loop μ-loop → List ℕ
-tableOf c = c .before .before .before .before .before .before .args .table .now
+tableOf c = c .before .before .before .before .before .args .table .now
 
 -- past the test the table has its length
 whole : (c : tie.Else1 Inv-loop μ-loop) → length (tableOf c) ≡ tableBytes
-whole c = asked-whole _ (sym (c .before .before .zone-mark .ensures .says) ∙ c .if1 .left)
+whole c = asked-whole _ (sym (c .before .refusal .ensures) ∙ c .if1 .left)
 
 -- a group of a whole table, and that its counts fit
 counts : (c : tie.After-group Inv-loop μ-loop)
@@ -82,14 +82,14 @@ with-share-requires c κs = search needs
 c-group-requires : tie.Need-c-group-requires Inv-loop μ-loop
 c-group-requires c κs = search needs
 
-zone-mark-requires : tie.Need-zone-mark-requires Inv-loop μ-loop
-zone-mark-requires c κs = search needs
+refusal-requires : tie.Need-refusal-requires Inv-loop μ-loop
+refusal-requires c κs = search needs
 
 returns : tie.Need-returns Inv-loop μ-loop
 returns c =
-    let zone = c .before .before in
-    let says = zone .zone-mark .ensures .says in
-    rw (unheard (zone .before), says) (ap cOverview (sym (seen-refused _ (λ e. c .if1 .taken (says ∙ e)))))
+    let asked = c .before in
+    let says = asked .refusal .ensures in
+    rw (unheard (asked .before), says) (ap cOverview (sym (seen-refused _ (λ e. c .if1 .taken (says ∙ e)))))
 
 loop-holds : tie.Need-loop-holds Inv-loop μ-loop
 unfolding upTo total
@@ -164,7 +164,7 @@ nx584-view-spec =
     μ-loop
     with-share-requires
     c-group-requires
-    zone-mark-requires
+    refusal-requires
     returns
     loop-holds
     group-requires
