@@ -95,7 +95,7 @@ module _ (L : ℕ) (known : lengthOk L ≡ true) (held : List ℕ) where
       → scanOf (inFrame Ascii held) (c ∷ d ∷ bs) ≡ usedMore 2 (scanOf (inFrame Ascii (held ++ (x ∷ []))) bs)
   two-digits c d u v x bs p q e f h =
       let high : stepOf (inFrame Ascii held) c ≡ goes (Digit u) held =
-      no-start (Open Ascii) held c (no-digit c u p) ∙ digit-due held L c (first held x L f) (λ k. h) ∙ rw p in
+      no-start (Open Ascii) held c (no-digit c u p) ∙ digit-due held L c (first held x L f) h ∙ rw p in
       let low : stepOf (record { mode = Digit u; held = held }) d ≡ goes (Open Ascii) (held ++ (x ∷ [])) =
       no-start (Digit u) held d (no-digit d v q) ∙ rw (q, e) (takes-on Ascii held x L known f h) in
       quiet (inFrame Ascii held) c (d ∷ bs) (Digit u) held high

@@ -77,27 +77,27 @@ last-bound (b ∷ bytes) L x h e k = omega (arith, length-snoc bytes x)
 
 -- ---- a character with no digit pending
 
-pub at-stop : (bytes : List ℕ) (L b : ℕ) → 0 < length bytes → getD bytes 0 L ≡ L → L + 3 ≤ length bytes → b ≡ 0x0D
+pub at-stop : (bytes : List ℕ) (L b : ℕ) → getD bytes 0 L ≡ L → L + 3 ≤ length bytes → b ≡ 0x0D
     → takesCharacter bytes b ≡ ends Ascii (judgedOf bytes) bytes
 unfolding wholeOf
-at-stop [] L b h e k s = absurd (omega arith)
-at-stop (x ∷ bytes) L b h e k s = rw (le-leb (x + 2) (length bytes) (omega arith), eq-eqb b 0x0D s)
+at-stop [] L b e k s = absurd (omega arith)
+at-stop (x ∷ bytes) L b e k s = rw (le-leb (x + 2) (length bytes) (omega arith), eq-eqb b 0x0D s)
 
-pub no-stop : (bytes : List ℕ) (L b : ℕ) → 0 < length bytes → getD bytes 0 L ≡ L → L + 3 ≤ length bytes → (b ≡ 0x0D → ⊥)
+pub no-stop : (bytes : List ℕ) (L b : ℕ) → getD bytes 0 L ≡ L → L + 3 ≤ length bytes → (b ≡ 0x0D → ⊥)
     → takesCharacter bytes b ≡ ends Ascii (handing 3 []) bytes
 unfolding wholeOf
-no-stop [] L b h e k s = absurd (omega arith)
-no-stop (x ∷ bytes) L b h e k s = rw (le-leb (x + 2) (length bytes) (omega arith), ne-eqb b 0x0D s)
+no-stop [] L b e k s = absurd (omega arith)
+no-stop (x ∷ bytes) L b e k s = rw (le-leb (x + 2) (length bytes) (omega arith), ne-eqb b 0x0D s)
 
-pub stop-bound : (bytes : List ℕ) (L : ℕ) → 0 < length bytes → getD bytes 0 L ≡ L → L + 3 ≤ length bytes
+pub stop-bound : (bytes : List ℕ) (L : ℕ) → getD bytes 0 L ≡ L → L + 3 ≤ length bytes
     → getD bytes 0 0 + 3 ≤ length bytes
-stop-bound [] L h e k = absurd (omega arith)
-stop-bound (x ∷ bytes) L h e k = omega arith
+stop-bound [] L e k = absurd (omega arith)
+stop-bound (x ∷ bytes) L e k = omega arith
 
-pub digit-due : (bytes : List ℕ) (L b : ℕ) → getD bytes 0 L ≡ L → (0 < length bytes → length bytes < L + 3)
+pub digit-due : (bytes : List ℕ) (L b : ℕ) → getD bytes 0 L ≡ L → length bytes < L + 3
     → takesCharacter bytes b ≡ takesDigit none bytes (valueOf b)
 digit-due [] L b e k = refl
-digit-due (x ∷ bytes) L b e k = rw (lt-leb (x + 2) (length bytes) (omega (arith, k (omega arith))))
+digit-due (x ∷ bytes) L b e k = rw (lt-leb (x + 2) (length bytes) (omega arith))
 
 -- ---- a digit's value, or 16
 

@@ -26,7 +26,7 @@ digit-here : (c : tie.After-digit) → let a = call c .args in (bytes : List ℕ
     → getD bytes 0 (a .first) ≡ a .first → stepIn (Open Ascii) (a .b) bytes ≡ takesDigit none bytes (valueOf (a .b))
 digit-here c bytes e f =
     let a = call c .args in
-    let due : 0 < length bytes → length bytes < a .first + 3 = λ w. omega (arith, c .before .if2 .left) in
+    let due : length bytes < a .first + 3 = omega (arith, c .before .if2 .left) in
     no-start (Open Ascii) bytes (a .b) (c .before .before .if1 .left) ∙ digit-due bytes (a .first) (a .b) f due
 
 opens-requires : tie.Need-opens-requires
@@ -46,11 +46,10 @@ returns-2 : tie.Need-returns-2
 returns-2 c bytes e f =
     let past = c .before .before .before in
     let a = past .before .args in
-    let some : 0 < length bytes = omega arith in
     let due : a .first + 3 ≤ length bytes = omega arith in
-    let none = no-start (Open Ascii) bytes (a .b) (past .if1 .left) in
-    rw (none, at-stop bytes (a .first) (a .b) some f due (c .before .if3 .taken))
-    (c .stops .ensures bytes (stop-bound bytes (a .first) some f due))
+    let on = no-start (Open Ascii) bytes (a .b) (past .if1 .left) in
+    rw (on, at-stop bytes (a .first) (a .b) f due (c .before .if3 .taken))
+    (c .stops .ensures bytes (stop-bound bytes (a .first) f due))
 
 says-requires : tie.Need-says-requires
 says-requires c κs = search needs
@@ -59,10 +58,9 @@ returns-3 : tie.Need-returns-3
 returns-3 c bytes e f =
     let past = c .before .before .before in
     let a = past .before .args in
-    let some : 0 < length bytes = omega arith in
     let due : a .first + 3 ≤ length bytes = omega arith in
-    let none = no-start (Open Ascii) bytes (a .b) (past .if1 .left) in
-    rw (none, no-stop bytes (a .first) (a .b) some f due (c .before .if3 .left))
+    let on = no-start (Open Ascii) bytes (a .b) (past .if1 .left) in
+    rw (on, no-stop bytes (a .first) (a .b) f due (c .before .if3 .left))
     (c .says .ensures bytes)
 
 digit-requires : tie.Need-digit-requires
@@ -77,21 +75,15 @@ says-requires-2 c κs = search needs
 returns-4 : tie.Need-returns-4
 returns-4 c bytes e f =
     let d = c .before .before in
-    rw (
-      digit-here d bytes e f,
-      is-digit (call d .args .b) (d .digit .result) (d .digit .ensures)
-          (c .before .if4 .taken),
-    )
+    let value = is-digit (call d .args .b) (d .digit .result) (d .digit .ensures) (c .before .if4 .taken) in
+    rw (digit-here d bytes e f, value)
     (c .goes .ensures bytes e)
 
 returns-5 : tie.Need-returns-5
 returns-5 c bytes e f =
     let d = c .before .before in
-    rw (
-      digit-here d bytes e f,
-      is-none (call d .args .b) (d .digit .result) (d .digit .ensures)
-          (c .before .if4 .left),
-    )
+    let value = is-none (call d .args .b) (d .digit .result) (d .digit .ensures) (c .before .if4 .left) in
+    rw (digit-here d bytes e f, value)
     (c .says2 .ensures bytes)
 
 pub character-spec : {M : Type 1} → statement M
