@@ -11,7 +11,8 @@ use Rattle.standard.specs.Table.{fresh, storesFrom, writesOf, doneAll, applyRef
 use Rattle.standard.specs.Overview.{heardOf, faultedOf}
 use Rattle.standard.specs.Report.{reportOn, reportOf}
 use Rattle.cards.specs.Text.{characters}
-use Rattle.cards.specs.Cards.{cards, toldOf, capture, printed, ofLines}
+use Rattle.cards.specs.Cards.{cards, toldOf}
+use Rattle.cards.specs.Printed.{capture, printed, ofLines}
 
 pub bench : map (λ c. toldOf (c .line)) cards ≡ map (λ c. c .told) cards
 unfolding cards flatMap upTo total prefixes sumsOf lengthFor valuesOk unstuff digitsOf pairs wholeOf replyOf fresh

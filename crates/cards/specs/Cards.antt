@@ -1,9 +1,7 @@
--- Document 01, "Bench cards": those marked P, and what `standard` says of the bytes of each; and card 13. Assumes
--- nothing.
+-- Document 01, "Bench cards": those marked P, and what `standard` says of the bytes of each. Assumes nothing.
 use Prim.Native.Nat.{ℕ, suc, _+_}
-use Prim.Native.String.{String}
 use mathlib.Core.Bool.{cond}
-use mathlib.Core.List.{List, [], _∷_, _++_, flatMap, map}
+use mathlib.Core.List.{List, [], _∷_, flatMap, map}
 use lib.Dec.{eqb}
 use Rattle.standard.specs.declared.Framing.{Framing}
 use Rattle.standard.specs.declared.Framing.the-variants.{Binary, Ascii}
@@ -11,7 +9,6 @@ use Rattle.standard.specs.Words.{upTo}
 use Rattle.standard.specs.Stream.{handedOf}
 use Rattle.standard.specs.Replies.{replyOf}
 use Rattle.standard.specs.Table.{fresh, tableAfter, heardZone, zoneShort}
-use Rattle.cards.specs.Text.{characters}
 
 -- a card's bytes on the line
 pub record Line : Type 0 where
@@ -84,21 +81,3 @@ toldOf l =
       replies = map (λ h. replyOf (h .verdict) (h .typeByte)) hands;
       zones = heardWith (tableAfter fresh hands);
     }
-
--- ---- card 13
-
--- "`nxread` on card 5 then card 1"
-abbrev pub capture : List ℕ
-capture = line5 ++ line1
-
--- what it "prints", in lines
-abbrev pub printed : List String
-printed =
-    "0 05 --" ∷ "0 1D --"
-    ∷ "1 16 1" ∷ "2 0 -9999" ∷ "3 0 -9999" ∷ "4 0 -9999" ∷ "5 0 -9999" ∷ "6 0 -9999" ∷ "7 0 -9999" ∷ "8 0 -9999"
-    ∷ "9 0 -9999" ∷ "10 0 -9999" ∷ "11 0 -9999" ∷ "12 0 -9999" ∷ "13 0 -9999" ∷ "14 0 -9999" ∷ "15 0 -9999"
-    ∷ "16 0 -9999" ∷ []
-
--- "0Ah ends each line"
-unfoldable pub ofLines : List String → List ℕ
-ofLines lines = flatMap (λ line. characters line ++ (0x0A ∷ [])) lines
