@@ -264,6 +264,8 @@ pub report-begins : (capture out : List ℕ) → longestReport ≤ length out
 report-begins capture out h =
     rw (le-ltb (length out) longestReport h) (refl, take-append-seam (reportOf capture) _)
 
+-- ---- who carries a type byte
+
 -- "for 0, 6, 7, 8", of all verdicts and refusals
 pub carriers : map carriesType (upTo 15) ≡ map (λ v. among v (0 ∷ 6 ∷ 7 ∷ 8 ∷ [])) (upTo 15)
 unfolding upTo
