@@ -1,4 +1,7 @@
 // What C calls: include/nx584.h. Numbers, byte slices and structs of numbers cross, no enum.
+use commands::Ended;
+use commands::Sending;
+use commands::Slot;
 use reader::Mode;
 use reader::Reader;
 use standard::Framing;
@@ -21,11 +24,13 @@ ghost use Rattle.standard.specs.Table.{Applied, appliedTo};
 ghost use Rattle.standard.specs.Overview.{seenOf, shareNumber, groupValues};
 ghost use Rattle.reader.specs.Step.{framingOf};
 ghost use Rattle.reader.specs.Read.{freshReader};
+ghost use Rattle.commands.specs.Commands.{endedNumber, answerOf, after, takeOf, tickOf, toldOf};
+ghost use Rattle.nx584.specs.Line.{cAnswer};
 ghost use Rattle.nx584.specs.Records.{cZone, cPartition, cSystem};
 ghost use Rattle.nx584.specs.Boundary.{framingFor, framingNumber, modeNumber, digitNumber, pendingFor, readerFor, cReader, soundC, lengthSaid, numbersSaid, padded, cRefused, cReading, withReply, cRead, CHears, CWrote, cGroup, cOverview};
 
 // NX584_VERSION: of the header that this library goes with.
-const VERSION: u32 = 1;
+const VERSION: u32 = 2;
 
 // NX584_LONGEST: the most bytes of a message.
 const LONGEST: usize = standard::LONGEST;
@@ -115,6 +120,16 @@ pub struct CSystem {
     pub number: u8,
     pub mark: u8,
     pub bytes: [u8; 11],
+}
+
+// What a call on the line of commands answers: 0 or the refusal's number, how the front ended, and
+// the message that goes out, zero beyond its length.
+#[repr(C)]
+pub struct CSending {
+    pub number: u8,
+    pub ended: u8,
+    pub length: u8,
+    pub message: [u8; commands::LONGEST_COMMAND],
 }
 
 fn framing_for(framing: u8) -> Framing
@@ -511,10 +526,61 @@ pub extern "C" fn nx584_system(table: &[u8]) -> CSystem
     }
 }
 
+// How the front ended.
+fn ended_number(ended: Ended) -> u8
+    ensures { λ r. ⌜ r ≡ endedNumber ended ⌝ }
+{
+    match ended {
+        Ended::Not => 0,
+        Ended::GivenUp => 1,
+        Ended::Acknowledged => 0x1D,
+        Ended::Failed => 0x1C,
+        Ended::Rejected => 0x1F,
+        Ended::Replied => 0x12,
+    }
+}
+
+fn c_sending(sending: Sending) -> CSending
+    ensures { λ r. ⌜ cAnswer r ≡ answerOf sending ⌝ }
+{
+    let ended = sending.ended;
+    let message = sending.message;
+    CSending {
+        number: sending.number,
+        ended: ended_number(ended),
+        length: sending.length,
+        message,
+    }
+}
+
+// A command is taken.
+#[no_mangle]
+pub extern "C" fn nx584_take(slots: &mut [Slot], message: &[u8]) -> CSending
+    ensures { λ r. ⌜ after (cAnswer r) (now (slots .exit)) ≡ takeOf (now (message .entry)) (now (slots .entry)) ⌝ }
+{
+    c_sending(slots::take(slots, message))
+}
+
+// Half a second passes.
+#[no_mangle]
+pub extern "C" fn nx584_tick(slots: &mut [Slot]) -> CSending
+    ensures { λ r. ⌜ after (cAnswer r) (now (slots .exit)) ≡ tickOf (now (slots .entry)) ⌝ }
+{
+    c_sending(slots::tick(slots))
+}
+
+// A message was heard.
+#[no_mangle]
+pub extern "C" fn nx584_told(slots: &mut [Slot], message: &[u8]) -> CSending
+    ensures { λ r. ⌜ after (cAnswer r) (now (slots .exit)) ≡ toldOf (now (message .entry)) (now (slots .entry)) ⌝ }
+{
+    c_sending(slots::told(slots, message))
+}
+
 // To compare with NX584_VERSION.
 #[no_mangle]
 pub extern "C" fn nx584_version() -> u32
-    ensures { λ r. ⌜ r ≡ 1 ⌝ }
+    ensures { λ r. ⌜ r ≡ 2 ⌝ }
 {
     VERSION
 }
