@@ -1,11 +1,11 @@
 -- Document 02, No. 1, "Commands that are repeated until acknowledged". Each definition stands under the words that it
 -- reads. Assumes nothing.
-use Prim.Native.Nat.{ℕ, _+_, _-_, _%_}
+use Prim.Native.Nat.{ℕ, _+_, _%_}
 use mathlib.Core.Bool.{Bool, true, cond, not, _&&_, _||_}
 use mathlib.Core.List.{List, [], _∷_, _++_}
 use lib.Dec.{eqb, leb}
 use lib.ListN.{length, take, drop, replicate}
-use Rattle.standard.specs.Words.{byte, firstOf}
+use Rattle.standard.specs.Words.{byte, firstOf, laid}
 use Rattle.standard.specs.Messages.{numberOf, among, within, messageTests, checkOf}
 use Rattle.commands.specs.declared.Slot.{Slot}
 use Rattle.commands.specs.declared.Eight.{Eight}
@@ -34,7 +34,7 @@ flagged (t ∷ m) = (128 + t % 128) ∷ m
 
 -- a message in an array, zero beyond its end
 abbrev pub padded : List ℕ → List ℕ
-padded m = m ++ replicate (longestCommand - length m) 0
+padded m = laid (replicate longestCommand 0) 0 m
 
 -- ---- the slots
 

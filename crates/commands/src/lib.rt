@@ -1,13 +1,14 @@
 // Document 02, No. 1: the line of commands that are repeated until acknowledged, by value. Eight slots
 // go in, and the eight come out with what goes out on the line.
 ghost use mathlib.Core.Path.{_≡_};
-ghost use mathlib.Core.Bool.{true, cond};
-ghost use mathlib.Core.List.{[]};
+ghost use mathlib.Core.Bool.{true, false};
+ghost use mathlib.Core.List.{[], _∷_};
 ghost use Prim.Native.Nat.{_<_, _≤_};
 ghost use lib.ListN.{length};
 ghost use Rattle.standard.specs.Words.{firstOf};
-ghost use Rattle.commands.specs.Commands.{oneOfThem, longestCommand, flagged, padded, holdsOne, endedNumber, answerOf, says, after, row, goesOut, endedBy, again, takeTests, placed, ends, telling, takeOf, tickOf, toldOf};
-ghost use Rattle.commands.specs.Commands.{used as Commands·used, blank as Commands·blank, idle as Commands·idle, sound as Commands·sound};
+ghost use Rattle.standard.specs.Messages.{among};
+ghost use Rattle.commands.specs.Commands.{oneOfThem, longestCommand, flagged, padded, unused, holdsOne, endedNumber, answerOf, says, after, row, goesOut, endedBy, again, takeTests, placed, telling, takeOf, tickOf, toldOf};
+ghost use Rattle.commands.specs.Commands.{ends as Commands·ends, blank as Commands·blank, idle as Commands·idle, sound as Commands·sound};
 ghost use Rattle.commands.specs.Places.{frontOk, behindOk, movedTo, putIn};
 
 // The longest of the 14 commands, 31h.
@@ -65,35 +66,18 @@ pub struct Called {
 fn one_of_them(number: u8) -> bool
     ensures { λ r. ⌜ r ≡ oneOfThem number ⌝ }
 {
-    match number {
-        0x29
-        | 0x2B
-        | 0x2C
-        | 0x31
-        | 0x34
-        | 0x35
-        | 0x36
-        | 0x37
-        | 0x3A
-        | 0x3B
-        | 0x3C
-        | 0x3D
-        | 0x3E
-        | 0x3F => true,
-        _ => false,
-    }
-}
-
-fn used(s: Slot) -> bool
-    ensures { λ r. ⌜ r ≡ Commands·used s ⌝ }
-{
-    s.length != 0
+    (number == 0x29)
+        | (number == 0x2B)
+        | (number == 0x2C)
+        | (number == 0x31)
+        | (0x34 <= number) & (number <= 0x37)
+        | (0x3A <= number) & (number <= 0x3F)
 }
 
 fn idle(s: Slot) -> bool
     ensures { λ r. ⌜ r ≡ Commands·idle s ⌝ }
 {
-    s.sent == 0 && s.ticks == 0
+    (s.sent == 0) & (s.ticks == 0)
 }
 
 // "holds a good one of the 14"
@@ -116,34 +100,21 @@ fn front_ok(s: Slot) -> bool
     ensures { λ r. ⌜ r ≡ frontOk s ⌝ }
 {
     if s.length == 0 {
-        return idle(s);
+        idle(s)
+    } else {
+        (1 <= s.sent) & (s.sent <= 4) & (s.ticks <= 5) & holds_one(s)
     }
-    if s.sent < 1 {
-        return false;
-    }
-    if 4 < s.sent {
-        return false;
-    }
-    if 5 < s.ticks {
-        return false;
-    }
-    holds_one(s)
 }
 
 // Any other slot, behind another.
 fn behind_ok(before: Slot, s: Slot) -> bool
     ensures { λ r. ⌜ r ≡ behindOk before s ⌝ }
 {
-    if !idle(s) {
-        return false;
-    }
     if s.length == 0 {
-        return true;
+        idle(s)
+    } else {
+        idle(s) & (before.length != 0) & holds_one(s)
     }
-    if before.length == 0 {
-        return false;
-    }
-    holds_one(s)
 }
 
 fn sound(q: Eight) -> bool
@@ -183,14 +154,13 @@ pub fn refused(number: u8) -> Sending
 
 // The message with its flag set, zeros beyond.
 fn with_flag(message: &[u8]) -> [u8; LONGEST_COMMAND]
+    requires { ⌜ 1 ≤ length (now message) ⌝ }
     requires { ⌜ length (now message) ≤ longestCommand ⌝ }
     ensures { λ r. ⌜ r ≡ padded (flagged (now (message .entry))) ⌝ }
 {
     let mut array = [0; LONGEST_COMMAND];
     bytes::copy(message, &mut array);
-    if message.len() != 0 {
-        array[0] = 128 + array[0] % 128;
-    }
+    array[0] = 128 + array[0] % 128;
     array
 }
 
@@ -255,7 +225,7 @@ fn moved_to(s: Slot, behind: Slot) -> Slot
 // The front ended, and the next one goes out.
 fn ended_by(ended: Ended, q: Eight) -> Called
     requires { ⌜ Commands·sound (row q) ≡ true ⌝ }
-    requires { ⌜ Commands·used (q .s0) ≡ true ⌝ }
+    requires { ⌜ unused (q .s0) ≡ false ⌝ }
     ensures { λ r. ⌜ after (answerOf (r .answer)) (row (r .line)) ≡ endedBy (endedNumber ended) (row q) ⌝ }
 {
     let line = Eight {
@@ -274,7 +244,7 @@ fn ended_by(ended: Ended, q: Eight) -> Called
 // "after four sendings the next 1Eh or sixth tick gives it up"
 fn sends_again(q: Eight) -> Called
     requires { ⌜ Commands·sound (row q) ≡ true ⌝ }
-    requires { ⌜ Commands·used (q .s0) ≡ true ⌝ }
+    requires { ⌜ unused (q .s0) ≡ false ⌝ }
     ensures { λ r. ⌜ after (answerOf (r .answer)) (row (r .line)) ≡ again (q .s0) (row q) ⌝ }
 {
     let s = q.s0;
@@ -291,13 +261,7 @@ fn sends_again(q: Eight) -> Called
 fn put_in(first: bool, s: Slot, new: Slot) -> Slot
     ensures { λ r. ⌜ r ≡ putIn first s new ⌝ }
 {
-    if !first {
-        return s;
-    }
-    if s.length == 0 {
-        return new;
-    }
-    s
+    if first & (s.length == 0) { new } else { s }
 }
 
 // 0, or what refuses a command: 22, 4, 6, 7, 8, 13, 14.
@@ -314,7 +278,7 @@ fn take_refusal(q: Eight, message: &[u8]) -> u8
     if !one_of_them(message[0] % 64) {
         return 13;
     }
-    if used(q.s7) { 14 } else { 0 }
+    if q.s7.length == 0 { 0 } else { 14 }
 }
 
 // The command behind those that wait.
@@ -330,13 +294,13 @@ fn place(q: Eight, message: &[u8]) -> Eight
     };
     Eight {
         s0: put_in(true, q.s0, new),
-        s1: put_in(used(q.s0), q.s1, new),
-        s2: put_in(used(q.s1), q.s2, new),
-        s3: put_in(used(q.s2), q.s3, new),
-        s4: put_in(used(q.s3), q.s4, new),
-        s5: put_in(used(q.s4), q.s5, new),
-        s6: put_in(used(q.s5), q.s6, new),
-        s7: put_in(used(q.s6), q.s7, new),
+        s1: put_in(q.s0.length != 0, q.s1, new),
+        s2: put_in(q.s1.length != 0, q.s2, new),
+        s3: put_in(q.s2.length != 0, q.s3, new),
+        s4: put_in(q.s3.length != 0, q.s4, new),
+        s5: put_in(q.s4.length != 0, q.s5, new),
+        s6: put_in(q.s5.length != 0, q.s6, new),
+        s7: put_in(q.s6.length != 0, q.s7, new),
     }
 }
 
@@ -352,13 +316,13 @@ pub fn take(q: Eight, message: &[u8]) -> Called
         };
     }
     let line = place(q, message);
-    if used(q.s0) {
+    if q.s0.length == 0 {
+        goes_out(Ended::Not, line)
+    } else {
         Called {
             answer: refused(0),
             line,
         }
-    } else {
-        goes_out(Ended::Not, line)
     }
 }
 
@@ -398,50 +362,45 @@ pub fn tick(q: Eight) -> Called
 }
 
 // "It ends by a good 1D, 1C or 1F, and 34h and 35h also by a good 12h."
-fn end_of(front: u8, number: u8) -> Ended
-    ensures { λ r. ⌜ endedNumber r ≡ cond (ends front number) number 0 ⌝ }
+fn ends(front: u8, number: u8) -> bool
+    ensures { λ r. ⌜ r ≡ Commands·ends front number ⌝ }
+{
+    (number == 0x1D)
+        | (number == 0x1C)
+        | (number == 0x1F)
+        | (number == 0x12) & ((front == 0x34) | (front == 0x35))
+}
+
+// The end by a message of that number.
+fn end_by(number: u8) -> Ended
+    requires { ⌜ among number (0x1D ∷ 0x1C ∷ 0x1F ∷ 0x12 ∷ []) ≡ true ⌝ }
+    ensures { λ r. ⌜ endedNumber r ≡ number ⌝ }
 {
     match number {
         0x1D => Ended::Acknowledged,
         0x1C => Ended::Failed,
         0x1F => Ended::Rejected,
-        0x12 => {
-            if front == 0x34 {
-                return Ended::Replied;
-            }
-            if front == 0x35 {
-                return Ended::Replied;
-            }
-            Ended::Not
-        }
-        _ => Ended::Not,
+        _ => Ended::Replied,
     }
 }
 
 // A good message of that number was heard while a command waits.
 fn hears(q: Eight, number: u8) -> Called
     requires { ⌜ Commands·sound (row q) ≡ true ⌝ }
-    requires { ⌜ Commands·used (q .s0) ≡ true ⌝ }
+    requires { ⌜ unused (q .s0) ≡ false ⌝ }
     ensures { λ r. ⌜ after (answerOf (r .answer)) (row (r .line)) ≡ telling number (row q) ⌝ }
 {
     let s = q.s0;
     let message = s.message;
-    let end = end_of(message[0] % 64, number);
-    match end {
-        Ended::Not => {
-            if number == 0x1E {
-                return sends_again(q);
-            }
-            Called {
-                answer: refused(0),
-                line: q,
-            }
-        }
-        Ended::GivenUp => ended_by(end, q),
-        Ended::Acknowledged => ended_by(end, q),
-        Ended::Failed => ended_by(end, q),
-        Ended::Rejected => ended_by(end, q),
-        Ended::Replied => ended_by(end, q),
+    if ends(message[0] % 64, number) {
+        return ended_by(end_by(number), q);
+    }
+    if number == 0x1E {
+        return sends_again(q);
+    }
+    Called {
+        answer: refused(0),
+        line: q,
     }
 }
 
@@ -462,7 +421,7 @@ pub fn told(q: Eight, message: &[u8]) -> Called
             line: q,
         };
     }
-    if !used(q.s0) {
+    if q.s0.length == 0 {
         return Called {
             answer: refused(0),
             line: q,

@@ -1,0 +1,29 @@
+-- How the front ended is told by its number. Assumes nothing.
+use Prim.Native.Nat.{ℕ}
+use mathlib.Core.Path.{_≡_, refl, sym, ap, _∙_}
+use mathlib.Core.Bool.{cond}
+use lib.Dec.{eqb}
+use Rattle.commands.specs.declared.Ended.{Ended}
+use Rattle.commands.specs.declared.Ended.the-variants.{Not, GivenUp, Acknowledged, Failed, Rejected, Replied}
+use Rattle.commands.specs.Commands.{endedNumber}
+
+-- the ending of a number
+abbrev endedWith : ℕ → Ended
+endedWith n =
+    cond (eqb n 1) GivenUp
+    (cond (eqb n 0x1D) Acknowledged
+    (cond (eqb n 0x1C) Failed
+    (cond (eqb n 0x1F) Rejected (cond (eqb n 0x12) Replied Not))))
+
+-- which gives each ending again
+back : (a : Ended) → endedWith (endedNumber a) ≡ a
+back Not = refl
+back GivenUp = refl
+back Acknowledged = refl
+back Failed = refl
+back Rejected = refl
+back Replied = refl
+
+-- two endings of one number are the same
+pub ended-one : {a b : Ended} → endedNumber a ≡ endedNumber b → a ≡ b
+ended-one {a} {b} e = sym (back a) ∙ ap endedWith e ∙ back b

@@ -1,0 +1,137 @@
+-- The flag: a message with it is as good as without, of the same number and length, and a good one of the 14 fits its
+-- slot. Assumes nothing.
+use Prim.Native.Nat.{ℕ, _+_, _%_, _≤_}
+use native.Mathlib.Omega.{arith}
+use mathlib.Core.Path.{_≡_, refl, sym, ap, ap₂, _∙_}
+use mathlib.Core.Bool.{Bool, true, false, cond, not, _&&_, _||_}
+use mathlib.Core.List.{List, [], _∷_, _++_}
+use lib.Dec.{eqb, leb}
+use lib.ListN.{length, getD, set, take, drop, replicate}
+use lib.Seq.{take-at, length-take-le}
+use borrow.Author.Tests.{eqb-true, leb-true, eq-eqb, le-leb}
+use Rattle.standard.specs.Words.{byte, bit, firstOf}
+use Rattle.standard.specs.Messages.{known, lengthIn, numberOf, lengthFor, lengthOk, among, valuesOk, messageTests, checkOf}
+use Rattle.standard.proofs.Messages.{passed, passed-number, both-true}
+use Rattle.commands.specs.declared.Slot.{Slot}
+use Rattle.commands.specs.Commands.{
+  fourteen,
+  oneOfThem,
+  longestCommand,
+  flagged,
+  padded,
+  messageIn,
+  numberIn,
+  holdsOne,
+  slotOf,
+}
+
+pub flagged-length : (m : List ℕ) → length (flagged m) ≡ length m
+unfolding flagged
+flagged-length [] = refl
+flagged-length (t ∷ m) = refl
+
+-- the flag is set in the first byte, and zeros stand beyond the message as before
+pub flag-first : (m : List ℕ) → 1 ≤ length m
+    → set (padded m) 0 (128 + getD (padded m) 0 0 % 128) ≡ padded (flagged m)
+unfolding flagged
+flag-first [] h = absurd (omega (arith, h))
+flag-first (t ∷ m) h = refl
+
+-- what goes out of a slot has the slot's length
+pub length-out : (n : ℕ) (m : List ℕ) → n ≤ length m → length (flagged (take n m)) ≡ n
+length-out n m h = flagged-length (take n m) ∙ length-take-le n m h
+
+pub flagged-twice : (m : List ℕ) → flagged (flagged m) ≡ flagged m
+unfolding flagged
+flagged-twice [] = refl
+flagged-twice (t ∷ m) =
+    let e : 128 + (128 + t % 128) % 128 ≡ 128 + t % 128 = omega arith in
+    ap (λ b. b ∷ m) e
+
+pub flagged-number : (m : List ℕ) → numberOf (byte 1 (flagged m)) ≡ numberOf (byte 1 m)
+unfolding flagged
+flagged-number [] = refl
+flagged-number (t ∷ m) = omega arith
+
+flagged-asks : (t : ℕ) → lengthFor (128 + t % 128) ≡ lengthFor t
+unfolding lengthFor
+flagged-asks t =
+    let six : bit 6 (128 + t % 128) ≡ bit 6 t = omega arith in
+    let number : numberOf (128 + t % 128) ≡ numberOf t = omega arith in
+    rw (six, number)
+
+-- the checks pass the flag by
+pub flagged-check : (m : List ℕ) → checkOf (flagged m) ≡ checkOf m
+unfolding flagged checkOf valuesOk
+flagged-check [] = refl
+flagged-check (t ∷ m) =
+    let number : numberOf (128 + t % 128) ≡ numberOf t = omega arith in
+    rw (flagged-asks t, number)
+
+-- no message has the number of slots that are not sound
+pub check-other : (m : List ℕ) → checkOf m ≡ 22 → ⊥
+unfolding checkOf
+check-other m h =
+    go (not (lengthOk (length m))) (not (not (eqb (lengthFor (byte 1 m)) 0)))
+    (not (eqb (length m) (lengthFor (byte 1 m))))
+    (not (valuesOk (numberOf (byte 1 m)) m)) h
+  where
+    go : (a b c d : Bool) → firstOf ((a, 4) ∷ (b, 6) ∷ (c, 7) ∷ (d, 8) ∷ []) ≡ 22 → ⊥
+    go true b c d h = omega arith
+    go false true c d h = omega arith
+    go false false true d h = omega arith
+    go false false false true h = omega arith
+    go false false false false h = omega arith
+
+-- a test that each of some numbers passes
+abbrev pub allPass : (ℕ → Bool) → List ℕ → Bool
+allPass f [] = true
+allPass f (k ∷ ks) = f k && allPass f ks
+
+pub among-passes : (f : ℕ → Bool) (ks : List ℕ) (n : ℕ) → allPass f ks ≡ true → among n ks ≡ true → f n ≡ true
+among-passes f [] n h a = let z : _≡_ {A = ℕ} 0 1 = cc in absurd (omega arith)
+among-passes f (k ∷ ks) n h a =
+    let x = both-true (f k) (allPass f ks) h in
+    go (eqb n k) refl a (x .0) (λ b. among-passes f ks n (x .1) b)
+  where
+    go : (t : Bool) → eqb n k ≡ t → (t || among n ks) ≡ true → f k ≡ true → (among n ks ≡ true → f n ≡ true)
+        → f n ≡ true
+    go true e a p r = ap f (eqb-true n k e) ∙ p
+    go false e a p r = r a
+
+-- a good one of the 14 is no longer than a slot's array
+pub few-bytes : (m : List ℕ) → checkOf m ≡ 0 → oneOfThem (numberOf (byte 1 m)) ≡ true → length m ≤ longestCommand
+unfolding oneOfThem
+few-bytes m h o =
+    let n = numberOf (byte 1 m) in
+    let e : length m ≡ lengthIn known n = passed-number m n (passed m h) refl in
+    let few = among-passes (λ k. leb (lengthIn known k) longestCommand) fourteen n refl o in
+    leb-true (length m) longestCommand (rw e few)
+
+-- what a slot holds that a command has just been put into
+pub slot-message : (m : List ℕ) → messageIn (slotOf m) ≡ flagged m
+slot-message m = take-at (flagged m) (drop (0 + length (flagged m)) (replicate longestCommand 0)) (length m) (flagged-length m)
+
+pub slot-holds : (m : List ℕ) → checkOf m ≡ 0 → oneOfThem (numberOf (byte 1 m)) ≡ true → holdsOne (slotOf m) ≡ true
+unfolding holdsOne
+slot-holds m h o =
+    let good : checkOf (flagged m) ≡ 0 = flagged-check m ∙ h in
+    rw (
+      le-leb (length m) longestCommand (few-bytes m h o),
+      slot-message m,
+      eq-eqb (checkOf (flagged m)) 0 good,
+      flagged-number m,
+    ) o
+
+-- a good message has a byte or more
+pub good-length : (m : List ℕ) → checkOf m ≡ 0 → 1 ≤ length m
+good-length m h = passed m h .sized .some
+
+-- so what a slot holds is not nothing, nor what goes out
+pub held-length : (s : Slot) → holdsOne s ≡ true → 1 ≤ length (flagged (messageIn s))
+unfolding holdsOne
+held-length s h =
+    let x = both-true (leb (s .length) longestCommand && eqb (checkOf (messageIn s)) 0) (oneOfThem (numberIn s)) h in
+    let y = both-true (leb (s .length) longestCommand) (eqb (checkOf (messageIn s)) 0) (x .0) in
+    let n = good-length (messageIn s) (eqb-true _ _ (y .1)) in
+    rw flagged-length n

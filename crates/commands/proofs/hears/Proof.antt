@@ -1,0 +1,97 @@
+-- `commands::hears` meets its contract: the front's number is that of its first byte, and the tests go in the order of
+-- the definition. Assumes nothing.
+use Prim.Native.Nat.{ℕ, _≤_}
+use native.Mathlib.Omega.{arith}
+use mathlib.Core.Path.{_≡_, refl, sym, ap, _∙_}
+use mathlib.Core.Bool.{Bool, true, false, _&&_, _||_}
+use mathlib.Core.List.{[], _∷_}
+use lib.Dec.{eqb}
+use lib.ListN.{length, drop}
+use borrow.Author.Needs.{needs}
+use borrow.Author.Tests.{eq-eqb, ne-eqb}
+use Rattle.standard.specs.Messages.{among}
+use Rattle.commands.specs.Commands.{longestCommand, numberIn, Answer, after, row, endedBy, ends}
+use Rattle.commands.proofs.Held.{first-byte, good-some, sound-front}
+use Rattle.commands.proofs.hears.Statement.{statement}
+use Rattle.commands.proofs.hears.Tie as tie
+
+-- what ends a command is one of four
+of-four : (a b c d x : Bool) → ((a || (b || (c || false))) || (d && x)) ≡ true → (a || (b || (c || (d || false)))) ≡ true
+of-four true b c d x h = refl
+of-four false true c d x h = refl
+of-four false false true d x h = refl
+of-four false false false true x h = refl
+of-four false false false false x h = h
+
+one-of-four : (front n : ℕ) → ends front n ≡ true → among n (0x1D ∷ 0x1C ∷ 0x1F ∷ 0x12 ∷ []) ≡ true
+unfolding ends
+one-of-four front n h = of-four (eqb n 0x1D) (eqb n 0x1C) (eqb n 0x1F) (eqb n 0x12) (among front (0x34 ∷ 0x35 ∷ [])) h
+
+size : (s : tie.Start) → length (s .args .q .s0 .message) ≡ longestCommand
+size s = search needs
+
+-- whether the front ends, as the code has found
+found : (c : tie.After-ends)
+    → (let s = c .before .before .before in ends (numberIn (s .args .q .s0)) (s .args .number) ≡ c .ends .result)
+found c =
+    let s = c .before .before .before in
+    let q = s .args .q in
+    let front = sound-front (q .s0) (drop 1 (row q)) (s .pre .1) (s .pre .0) in
+    let whole : q .s0 .length ≤ length (q .s0 .message) = omega (arith, front .held .few, size s) in
+    let some = good-some (q .s0 .length) (q .s0 .message) whole (front .held .good) in
+    rw (first-byte (q .s0 .length) (q .s0 .message) some) (sym (c .ends .ensures))
+
+array-read-ends : tie.Need-array-read-ends
+array-read-ends c = search needs
+
+ends-requires : tie.Need-ends-requires
+ends-requires c κs = search needs
+
+end-by-requires : tie.Need-end-by-requires
+end-by-requires c κs = one-of-four _ _ (sym (c .before .ends .ensures) ∙ c .if1 .taken)
+
+ended-by-requires : tie.Need-ended-by-requires
+ended-by-requires c κs = search needs
+
+returns : tie.Need-returns
+returns c =
+    let by = c .before in
+    let call = by .before .before in
+    let s = call .before .before .before in
+    rw (s .pre .1, found call ∙ by .before .if1 .taken)
+    (c .ended-by .ensures ∙ ap (λ (n : ℕ). endedBy n (row (s .args .q))) (by .end-by .ensures))
+
+sends-again-requires : tie.Need-sends-again-requires
+sends-again-requires c κs = search needs
+
+returns-2 : tie.Need-returns-2
+returns-2 c =
+    let test = c .before in
+    let call = test .before .before in
+    let s = call .before .before .before in
+    rw (s .pre .1, found call ∙ test .before .if1 .left, eq-eqb _ _ (test .if2 .taken)) (c .sends-again .ensures)
+
+refused-requires : tie.Need-refused-requires
+refused-requires c κs = search needs
+
+returns-3 : tie.Need-returns-3
+returns-3 c =
+    let test = c .before in
+    let call = test .before .before in
+    let s = call .before .before .before in
+    rw (s .pre .1, found call ∙ test .before .if1 .left, ne-eqb _ _ (test .if2 .left))
+    (ap (λ (a : Answer). after a (row (s .args .q))) (c .refused .ensures))
+
+pub hears-spec : {M : Type 1} → statement M
+hears-spec =
+    tie.close
+    (tie.spec
+    array-read-ends
+    ends-requires
+    end-by-requires
+    ended-by-requires
+    returns
+    sends-again-requires
+    returns-2
+    refused-requires
+    returns-3)

@@ -1,0 +1,29 @@
+use native.Mathlib.Omega.{arith}
+use mathlib.Core.Path.{_∙_}
+use mathlib.Core.List.{[], _∷_}
+use lib.ListN.{drop}
+use borrow.Author.Needs.{needs}
+use borrow.Author.Tests.{le-leb, lt-leb}
+use Rattle.commands.specs.Commands.{row}
+use Rattle.commands.proofs.Held.{sound-front}
+use Rattle.commands.proofs.sends_again.Statement.{statement}
+use Rattle.commands.proofs.sends_again.Tie as tie
+
+goes-out-requires : tie.Need-goes-out-requires
+goes-out-requires c κs =
+    let s = c .before .before .before in
+    let q = s .args .q in
+    let front = sound-front (q .s0) (drop 1 (row q)) (s .pre .1) (s .pre .0) in
+    (front .most, front .held .few)
+
+ended-by-requires : tie.Need-ended-by-requires
+ended-by-requires c κs = search needs
+
+returns : tie.Need-returns
+returns c = simp (lt-leb _ _ (c .before .if1 .taken)) (c .goes-out .ensures)
+
+returns-2 : tie.Need-returns-2
+returns-2 c = simp (le-leb _ _ (c .before .if1 .left)) (c .ended-by .ensures)
+
+pub sends-again-spec : {M : Type 1} → statement M
+sends-again-spec = tie.close (tie.spec goes-out-requires ended-by-requires returns returns-2)
