@@ -1,11 +1,12 @@
--- How the front ended is told by its number. Assumes nothing.
+-- How the front ended is told by its number, so that an answer in the paper's numbers tells the answer. Assumes nothing.
 use Prim.Native.Nat.{ℕ}
 use mathlib.Core.Path.{_≡_, refl, sym, ap, _∙_}
 use mathlib.Core.Bool.{cond}
 use lib.Dec.{eqb}
 use Rattle.commands.specs.declared.Ended.{Ended}
 use Rattle.commands.specs.declared.Ended.the-variants.{Not, GivenUp, Acknowledged, Failed, Rejected, Replied}
-use Rattle.commands.specs.Commands.{endedNumber}
+use Rattle.commands.specs.declared.Sending.{Sending}
+use Rattle.commands.specs.Commands.{Answer, endedNumber, answerOf}
 
 -- the ending of a number
 abbrev endedWith : ℕ → Ended
@@ -27,3 +28,9 @@ back Replied = refl
 -- two endings of one number are the same
 pub ended-one : {a b : Ended} → endedNumber a ≡ endedNumber b → a ≡ b
 ended-one {a} {b} e = sym (back a) ∙ ap endedWith e ∙ back b
+
+-- two answers of the same numbers are the same
+pub sending-one : {x y : Sending} → answerOf x ≡ answerOf y → x ≡ y
+sending-one {x} {y} e =
+    let ended = ended-one (ap (λ (a : Answer). a .ended) e) in
+    λ j. record { number = e j .number; ended = ended j; length = e j .length; message = e j .message }

@@ -4,3 +4,4 @@ pub mod Slotwise
 pub mod Refusing
 pub mod NotEight
 pub mod Endings
+pub mod Unique
