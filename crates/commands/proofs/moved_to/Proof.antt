@@ -1,3 +1,4 @@
+use native.Mathlib.Omega.{arith}
 use mathlib.Core.Path.{_≡_}
 use borrow.Author.Needs.{needs}
 use borrow.Author.Tests.{eq-eqb, ne-eqb}
@@ -14,7 +15,10 @@ blank-requires c κs = search needs
 
 returns-2 : tie.Need-returns-2
 unfolding movedTo
-returns-2 c = simp (eq-eqb _ _ (c .before .before .if1 .left), eq-eqb _ _ (c .if2 .taken))
+returns-2 c =
+    let first = c .before .before in
+    let free : first .before .before .args .s .length ≡ 0 = omega (arith, c .if2 .taken) in
+    simp (eq-eqb _ _ (first .if1 .left), eq-eqb _ _ free)
 
 returns-3 : tie.Need-returns-3
 unfolding movedTo

@@ -1,6 +1,5 @@
+use Prim.Native.Nat.{_<_, _≤_}
 use native.Mathlib.Omega.{arith}
-use mathlib.Core.Path.{_∙_}
-use mathlib.Core.List.{[], _∷_}
 use lib.ListN.{drop}
 use borrow.Author.Needs.{needs}
 use borrow.Author.Tests.{le-leb, lt-leb}
@@ -20,10 +19,16 @@ ended-by-requires : tie.Need-ended-by-requires
 ended-by-requires c κs = search needs
 
 returns : tie.Need-returns
-returns c = simp (lt-leb _ _ (c .before .if1 .taken)) (c .goes-out .ensures)
+returns c =
+    let test = c .before in
+    let fewer : test .before .before .before .args .q .s0 .sent < 4 = omega (arith, test .if1 .taken) in
+    simp (lt-leb _ _ fewer) (c .goes-out .ensures)
 
 returns-2 : tie.Need-returns-2
-returns-2 c = simp (le-leb _ _ (c .before .if1 .left)) (c .ended-by .ensures)
+returns-2 c =
+    let test = c .before in
+    let four : 4 ≤ test .before .before .before .args .q .s0 .sent = omega (arith, test .if1 .left) in
+    simp (le-leb _ _ four) (c .ended-by .ensures)
 
 pub sends-again-spec : {M : Type 1} → statement M
 sends-again-spec = tie.close (tie.spec goes-out-requires ended-by-requires returns returns-2)
