@@ -1,7 +1,15 @@
 pub mod Flag
+pub mod Form
 pub mod Held
 pub mod Slotwise
 pub mod Refusing
 pub mod NotEight
 pub mod Endings
+pub mod Step
+pub mod Kept
+pub mod Lost
+pub mod Follow
+pub mod InTime
+pub mod Order
+pub mod Freed
 pub mod Unique
