@@ -2,15 +2,15 @@
 -- slot. Assumes nothing.
 use Prim.Native.Nat.{ℕ, _+_, _%_, _≤_}
 use native.Mathlib.Omega.{arith}
-use mathlib.Core.Path.{_≡_, refl, sym, ap, ap₂, _∙_}
-use mathlib.Core.Bool.{Bool, true, false, cond, not, _&&_, _||_}
-use mathlib.Core.List.{List, [], _∷_, _++_}
+use mathlib.Core.Path.{_≡_, refl, ap, _∙_}
+use mathlib.Core.Bool.{Bool, true, false, _&&_, _||_}
+use mathlib.Core.List.{List, [], _∷_}
 use lib.Dec.{eqb, leb}
 use lib.ListN.{length, getD, set, take, drop, replicate}
 use lib.Seq.{take-at, length-take-le}
 use borrow.Author.Tests.{eqb-true, leb-true, eq-eqb, le-leb}
-use Rattle.standard.specs.Words.{byte, bit, firstOf}
-use Rattle.standard.specs.Messages.{known, lengthIn, numberOf, lengthFor, lengthOk, among, valuesOk, messageTests, checkOf}
+use Rattle.standard.specs.Words.{byte, bit}
+use Rattle.standard.specs.Messages.{known, lengthIn, numberOf, lengthFor, among, valuesOk, checkOf}
 use Rattle.standard.proofs.Messages.{passed, passed-number, both-true}
 use Rattle.commands.specs.declared.Slot.{Slot}
 use Rattle.commands.specs.Commands.{
@@ -25,6 +25,7 @@ use Rattle.commands.specs.Commands.{
   slotOf,
 }
 
+-- the length stays
 pub flagged-length : (m : List ℕ) → length (flagged m) ≡ length m
 unfolding flagged
 flagged-length [] = refl
@@ -41,6 +42,7 @@ flag-first (t ∷ m) h = refl
 pub length-out : (n : ℕ) (m : List ℕ) → n ≤ length m → length (flagged (take n m)) ≡ n
 length-out n m h = flagged-length (take n m) ∙ length-take-le n m h
 
+-- a flag that is set again changes nothing
 pub flagged-twice : (m : List ℕ) → flagged (flagged m) ≡ flagged m
 unfolding flagged
 flagged-twice [] = refl
@@ -48,6 +50,7 @@ flagged-twice (t ∷ m) =
     let e : 128 + (128 + t % 128) % 128 ≡ 128 + t % 128 = omega arith in
     ap (λ b. b ∷ m) e
 
+-- the number stays
 pub flagged-number : (m : List ℕ) → numberOf (byte 1 (flagged m)) ≡ numberOf (byte 1 m)
 unfolding flagged
 flagged-number [] = refl
@@ -68,26 +71,12 @@ flagged-check (t ∷ m) =
     let number : numberOf (128 + t % 128) ≡ numberOf t = omega arith in
     rw (flagged-asks t, number)
 
--- no message has the number of slots that are not sound
-pub check-other : (m : List ℕ) → checkOf m ≡ 22 → ⊥
-unfolding checkOf
-check-other m h =
-    go (not (lengthOk (length m))) (not (not (eqb (lengthFor (byte 1 m)) 0)))
-    (not (eqb (length m) (lengthFor (byte 1 m))))
-    (not (valuesOk (numberOf (byte 1 m)) m)) h
-  where
-    go : (a b c d : Bool) → firstOf ((a, 4) ∷ (b, 6) ∷ (c, 7) ∷ (d, 8) ∷ []) ≡ 22 → ⊥
-    go true b c d h = omega arith
-    go false true c d h = omega arith
-    go false false true d h = omega arith
-    go false false false true h = omega arith
-    go false false false false h = omega arith
-
 -- a test that each of some numbers passes
 abbrev pub allPass : (ℕ → Bool) → List ℕ → Bool
 allPass f [] = true
 allPass f (k ∷ ks) = f k && allPass f ks
 
+-- so one of them does
 pub among-passes : (f : ℕ → Bool) (ks : List ℕ) (n : ℕ) → allPass f ks ≡ true → among n ks ≡ true → f n ≡ true
 among-passes f [] n h a = let z : _≡_ {A = ℕ} 0 1 = cc in absurd (omega arith)
 among-passes f (k ∷ ks) n h a =
@@ -112,6 +101,7 @@ few-bytes m h o =
 pub slot-message : (m : List ℕ) → messageIn (slotOf m) ≡ flagged m
 slot-message m = take-at (flagged m) (drop (0 + length (flagged m)) (replicate longestCommand 0)) (length m) (flagged-length m)
 
+-- it holds a good one of the 14, if that was one
 pub slot-holds : (m : List ℕ) → checkOf m ≡ 0 → oneOfThem (numberOf (byte 1 m)) ≡ true → holdsOne (slotOf m) ≡ true
 unfolding holdsOne
 slot-holds m h o =
@@ -127,11 +117,19 @@ slot-holds m h o =
 pub good-length : (m : List ℕ) → checkOf m ≡ 0 → 1 ≤ length m
 good-length m h = passed m h .sized .some
 
--- so what a slot holds is not nothing, nor what goes out
-pub held-length : (s : Slot) → holdsOne s ≡ true → 1 ≤ length (flagged (messageIn s))
+-- what a slot holds
+pub record Holds (s : Slot) : Type 0 where
+  pub few : s .length ≤ longestCommand
+  pub good : checkOf (messageIn s) ≡ 0
+  pub one : oneOfThem (numberIn s) ≡ true
+
+pub holds : (s : Slot) → holdsOne s ≡ true → Holds s
 unfolding holdsOne
-held-length s h =
-    let x = both-true (leb (s .length) longestCommand && eqb (checkOf (messageIn s)) 0) (oneOfThem (numberIn s)) h in
-    let y = both-true (leb (s .length) longestCommand) (eqb (checkOf (messageIn s)) 0) (x .0) in
-    let n = good-length (messageIn s) (eqb-true _ _ (y .1)) in
-    rw flagged-length n
+holds s h =
+    let two = both-true (leb (s .length) longestCommand && eqb (checkOf (messageIn s)) 0) (oneOfThem (numberIn s)) h in
+    let one = both-true (leb (s .length) longestCommand) (eqb (checkOf (messageIn s)) 0) (two .0) in
+    record { few = leb-true _ _ (one .0); good = eqb-true _ _ (one .1); one = two .1 }
+
+-- so it is not nothing, nor is what goes out
+pub held-length : (s : Slot) → holdsOne s ≡ true → 1 ≤ length (flagged (messageIn s))
+held-length s h = rw flagged-length (good-length (messageIn s) (holds s h .good))

@@ -86,7 +86,7 @@ every-append p (s ∷ a) b h k =
     let x = both-true (p s) (every p a) h in rw (x .0, every-append p a b (x .1) k)
 
 -- free ones: none waits
-free-those : (l : List Slot) → every unused l ≡ true → (those used l ≡ []) × (those unused l ≡ l)
+pub free-those : (l : List Slot) → every unused l ≡ true → (those used l ≡ []) × (those unused l ≡ l)
 unfolding every those
 free-those [] h = (refl, refl)
 free-those (s ∷ l) h =
@@ -194,19 +194,28 @@ first-form s t n u g o = go (unused s) refl u g o
           form = record { eight = rw (p .parts) at n; waits = (front, p .behind); free = p .free };
         }
 
--- SOUND SLOTS are those that wait, and then the free ones
-pub sound-form : (xs : List Slot) → sound xs ≡ true → Sound xs (waitingIn xs) (those unused xs)
+-- the four tests of soundness
+pub record Tests (xs : List Slot) : Type 0 where
+  pub eight : length xs ≡ 8
+  pub first : usedFirst xs ≡ true
+  pub hold : every holdsOne (waitingIn xs) ≡ true
+  pub only : onlyFirst xs ≡ true
+
+pub sound-tests : (xs : List Slot) → sound xs ≡ true → Tests xs
 unfolding sound
-sound-form xs h =
+sound-tests xs h =
     let a = both-true (eqb (length xs) 8 && usedFirst xs && every holdsOne (waitingIn xs)) (onlyFirst xs) h in
     let b = both-true (eqb (length xs) 8 && usedFirst xs) (every holdsOne (waitingIn xs)) (a .0) in
     let d = both-true (eqb (length xs) 8) (usedFirst xs) (b .0) in
-    go xs (eqb-true _ _ (d .0)) (d .1) (b .1) (a .1)
+    record { eight = eqb-true _ _ (d .0); first = d .1; hold = b .1; only = a .1 }
+
+-- SOUND SLOTS are those that wait, and then the free ones
+pub sound-form : (xs : List Slot) → sound xs ≡ true → Sound xs (waitingIn xs) (those unused xs)
+sound-form xs h = go xs (sound-tests xs h)
   where
-    go : (xs : List Slot) → length xs ≡ 8 → usedFirst xs ≡ true → every holdsOne (waitingIn xs) ≡ true
-        → onlyFirst xs ≡ true → Sound xs (waitingIn xs) (those unused xs)
-    go [] n u g o = absurd (omega arith)
-    go (s ∷ t) n u g o = first-form s t n u g o
+    go : (xs : List Slot) → Tests xs → Sound xs (waitingIn xs) (those unused xs)
+    go [] t = let n = t .eight in absurd (omega arith)
+    go (s ∷ r) t = first-form s r (t .eight) (t .first) (t .hold) (t .only)
 
 -- and the first of those that wait is outstanding
 pub sound-waits : (xs : List Slot) → sound xs ≡ true → Waits (waitingIn xs)

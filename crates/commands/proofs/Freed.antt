@@ -7,14 +7,15 @@ use mathlib.Core.Bool.{Bool, true, false, cond}
 use mathlib.Core.List.{List, [], _∷_}
 use lib.Dec.{eqb}
 use lib.ListN.{replicate}
-use borrow.Author.Tests.{eq-eqb, ne-eqb}
-use Rattle.standard.specs.Words.{byte}
+use borrow.Author.Tests.{ne-eqb}
+use Rattle.standard.specs.Words.{byte, firstOf}
 use Rattle.standard.specs.Messages.{numberOf, checkOf}
 use Rattle.commands.specs.declared.Slot.{Slot}
-use Rattle.commands.specs.Commands.{oneOfThem, blank, used, unused, those, waiting, sound, After, goesOut, placed}
+use Rattle.commands.specs.Commands.{oneOfThem, blank, used, unused, those, waiting, sound, After, goesOut, placed, takeTests}
 use Rattle.commands.specs.Runs.{Call, take, called, empty, slotsAfter}
 use Rattle.commands.proofs.Form.{form-free}
-use Rattle.commands.proofs.Step.{Blank, take-does, called-done}
+use Rattle.commands.proofs.Refusing.{take-last, take-runs}
+use Rattle.commands.proofs.Step.{Blank, called-done}
 use Rattle.commands.proofs.Kept.{kept, empty-sound}
 
 call-frees : (c : Call) (xs : List Slot) → sound xs ≡ true → Blank (those unused xs)
@@ -54,5 +55,6 @@ pub room : (m : List ℕ) (xs : List Slot) → sound xs ≡ true → checkOf m �
     → waiting xs < 8 → called (take m) xs .answer .number ≡ 0
 unfolding called
 room m xs h good one few =
-    rw (take-does xs h m, eq-eqb (checkOf m) 0 good, one, ne-eqb (waiting xs) 8 (λ e. omega arith))
-    (either (eqb (waiting xs) 0) _ _ (goes-unrefused 0 (placed m xs)) refl)
+    let last : firstOf (takeTests m xs) ≡ 0 =
+    rw (take-last m xs h good one, ne-eqb (waiting xs) 8 (λ e. omega (arith, few, e))) in
+    rw (take-runs m xs last) (either (eqb (waiting xs) 0) _ _ (goes-unrefused 0 (placed m xs)) refl)

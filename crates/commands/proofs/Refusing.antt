@@ -5,9 +5,10 @@ use mathlib.Core.Path.{_≡_, refl, sym, ap, _∙_}
 use mathlib.Core.Bool.{Bool, true, false, cond, not}
 use mathlib.Core.List.{List, [], _∷_, _++_}
 use lib.Dec.{eqb}
+use lib.ListN.{length}
 use borrow.Author.Tests.{eq-eqb, ne-eqb, eqb-true, eqb-false}
 use Rattle.standard.specs.Words.{byte, firstOf}
-use Rattle.standard.specs.Messages.{numberOf, messageTests, checkOf}
+use Rattle.standard.specs.Messages.{numberOf, lengthFor, lengthOk, valuesOk, messageTests, checkOf}
 use Rattle.standard.proofs.Messages.{check-then, check-after}
 use Rattle.commands.specs.declared.Slot.{Slot}
 use Rattle.commands.specs.Commands.{
@@ -56,6 +57,21 @@ module _ (xs : List Slot) (e : sound xs ≡ false) where
 
 -- ---- the other refusals
 
+-- no message has the number of slots that are not sound
+pub check-other : (m : List ℕ) → checkOf m ≡ 22 → ⊥
+unfolding checkOf
+check-other m h =
+    go (not (lengthOk (length m))) (not (not (eqb (lengthFor (byte 1 m)) 0)))
+    (not (eqb (length m) (lengthFor (byte 1 m))))
+    (not (valuesOk (numberOf (byte 1 m)) m)) h
+  where
+    go : (a b c d : Bool) → firstOf ((a, 4) ∷ (b, 6) ∷ (c, 7) ∷ (d, 8) ∷ []) ≡ 22 → ⊥
+    go true b c d h = omega arith
+    go false true c d h = omega arith
+    go false false true d h = omega arith
+    go false false false true h = omega arith
+    go false false false false h = omega arith
+
 -- what is asked of a command after it is good
 abbrev later : List ℕ → List Slot → List (Bool × ℕ)
 later m xs = (not (oneOfThem (numberOf (byte 1 m))), 13) ∷ (eqb (waiting xs) 8, 14) ∷ []
@@ -82,6 +98,18 @@ module _ (m : List ℕ) (xs : List Slot) where
       pub take-last : oneOfThem (numberOf (byte 1 m)) ≡ true → firstOf (takeTests m xs) ≡ cond (eqb (waiting xs) 8) 14 0
       take-last o = take-tests ∙ rw (e, eq-eqb (checkOf m) 0 g, o)
 
+-- no number of these is that of slots that are not sound
+other-by : (m : List ℕ) (c o f : Bool) → cond c (cond (not o) 13 (cond f 14 0)) (checkOf m) ≡ 22 → ⊥
+other-by m false o f h = check-other m h
+other-by m true false f h = omega (arith, h)
+other-by m true true true h = omega (arith, h)
+other-by m true true false h = omega (arith, h)
+
+pub take-other : (m : List ℕ) (xs : List Slot) → sound xs ≡ true → firstOf (takeTests m xs) ≡ 22 → ⊥
+take-other m xs e h =
+    let by : firstOf (takeTests m xs) ≡ cond (eqb (checkOf m) 0) (firstOf (later m xs)) (checkOf m) = take-tests m xs ∙ rw e in
+    other-by m (eqb (checkOf m) 0) (oneOfThem (numberOf (byte 1 m))) (eqb (waiting xs) 8) (sym by ∙ h)
+
 -- a command that is not refused
 pub record Taken (m : List ℕ) (xs : List Slot) : Type 0 where
   pub sound : sound xs ≡ true
@@ -107,9 +135,9 @@ taken m xs h =
 -- ---- what each call does where it is not refused
 
 module _ (xs : List Slot) (e : sound xs ≡ true) where
-  pub tick-done : tickOf xs ≡ ticking xs
+  pub tick-runs : tickOf xs ≡ ticking xs
   unfolding tickOf
-  tick-done = rw e
+  tick-runs = rw e
 
   module _ (m : List ℕ) where
     pub told-refused : (checkOf m ≡ 0 → ⊥) → toldOf m xs ≡ after (says (checkOf m) 0 []) xs
@@ -118,16 +146,16 @@ module _ (xs : List Slot) (e : sound xs ≡ true) where
         call-refused (soundTests xs ++ messageTests m) xs _ (λ z. n (sym (told-tests m xs e) ∙ z))
         ∙ ap (λ n. after (says n 0 []) xs) (told-tests m xs e)
 
-    pub told-done : checkOf m ≡ 0 → toldOf m xs ≡ telling (numberOf (byte 1 m)) xs
+    pub told-runs : checkOf m ≡ 0 → toldOf m xs ≡ telling (numberOf (byte 1 m)) xs
     unfolding toldOf
-    told-done g = call-done (soundTests xs ++ messageTests m) xs _ (told-tests m xs e ∙ g)
+    told-runs g = call-done (soundTests xs ++ messageTests m) xs _ (told-tests m xs e ∙ g)
 
 module _ (m : List ℕ) (xs : List Slot) where
   pub take-refused : (firstOf (takeTests m xs) ≡ 0 → ⊥) → takeOf m xs ≡ after (says (firstOf (takeTests m xs)) 0 []) xs
   unfolding takeOf
   take-refused n = call-refused (takeTests m xs) xs _ n
 
-  pub take-done : firstOf (takeTests m xs) ≡ 0
+  pub take-runs : firstOf (takeTests m xs) ≡ 0
       → takeOf m xs ≡ cond (eqb (waiting xs) 0) (goesOut 0 (placed m xs)) (after quiet (placed m xs))
   unfolding takeOf
-  take-done g = call-done (takeTests m xs) xs _ g
+  take-runs g = call-done (takeTests m xs) xs _ g

@@ -7,12 +7,11 @@
 use Prim.Native.Nat.{suc, _<_, _≤_}
 use native.Mathlib.Omega.{arith}
 use mathlib.Core.Path.{_≡_, refl, sym, ap, _∙_}
-use mathlib.Core.Bool.{Bool, true, false, cond, not, _&&_}
+use mathlib.Core.Bool.{Bool, true, false, _&&_, and-true, and-false, and-assoc}
 use mathlib.Core.List.{List, [], _∷_, _++_}
 use lib.Dec.{eqb, eqb·zero-suc, eqb·suc-zero, eqb·suc-suc}
 use lib.ListN.{length, drop}
-use borrow.Author.Tests.{eq-eqb}
-use Rattle.standard.proofs.Messages.{both-true, and-true}
+use Rattle.standard.proofs.Messages.{both-true}
 use Rattle.commands.specs.declared.Slot.{Slot}
 use Rattle.commands.specs.Commands.{
   used,
@@ -30,16 +29,9 @@ use Rattle.commands.specs.Commands.{
   movedUp,
 }
 use Rattle.commands.specs.Places.{frontOk, behindOk, movedTo, putIn}
+use Rattle.commands.proofs.Form.{free-those}
 
 -- ---- of two values
-
-and-false : (a : Bool) → (a && false) ≡ false
-and-false true = refl
-and-false false = refl
-
-and-assoc : (a b c : Bool) → ((a && b) && c) ≡ (a && (b && c))
-and-assoc true b c = refl
-and-assoc false b c = refl
 
 -- a test that comes later comes first
 sooner : (x i y : Bool) → (x && (i && y)) ≡ (i && (x && y))
@@ -100,17 +92,10 @@ waits-most (s ∷ t) = most-at s t (unused s) refl (waits-most t)
 
 -- where every slot is free none waits, and the free ones are all
 none-waits : (t : List Slot) → every unused t ≡ true → waitingIn t ≡ []
-unfolding every those
-none-waits [] h = refl
-none-waits (s ∷ t) h =
-    let two = both-true (unused s) (every unused t) h in waits-free s t (two .0) ∙ none-waits t (two .1)
+none-waits t h = free-those t h .0
 
 all-free : (t : List Slot) → every unused t ≡ true → those unused t ≡ t
-unfolding every those
-all-free [] h = refl
-all-free (s ∷ t) h =
-    let two = both-true (unused s) (every unused t) h in
-    frees-free s t (two .0) ∙ ap (_∷_ s) (all-free t (two .1))
+all-free t h = free-those t h .1
 
 -- ---- soundness
 

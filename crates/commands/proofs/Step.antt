@@ -3,7 +3,7 @@
 use Prim.Native.Nat.{ℕ, _+_, _≤_}
 use native.Mathlib.Omega.{arith}
 use mathlib.Core.Path.{_≡_, refl, sym, ap, subst}
-use mathlib.Core.Bool.{Bool, true, false, cond, not, _&&_, _||_, false≢true}
+use mathlib.Core.Bool.{Bool, true, false, cond, not, or-true, false≢true}
 use mathlib.Core.List.{List, [], _∷_, _++_}
 use lib.Dec.{eqb, leb}
 use lib.ListN.{length, drop, length-append}
@@ -11,20 +11,22 @@ use lib.Seq.{append-snoc}
 use borrow.Author.Tests.{eqb-true, eqb-false, leb-false, not-true, ne-eqb}
 use Rattle.standard.specs.Words.{byte, firstOf}
 use Rattle.standard.specs.Messages.{numberOf, among, checkOf}
-use Rattle.standard.proofs.Messages.{check-then}
 use Rattle.commands.specs.declared.Slot.{Slot}
 use Rattle.commands.specs.Commands.{oneOfThem, flagged, blank, used, unused, messageIn, numberIn, those}
 use Rattle.commands.specs.Commands.{waitingIn, waiting, holdsOne, sound, Answer, says, quiet, After, after}
-use Rattle.commands.specs.Commands.{sentOnce, tickedOnce, goesOut, endedBy, again, takeTests, slotOf, placed}
-use Rattle.commands.specs.Commands.{takeOf, ticking, tickOf, ends, telling, toldOf}
+use Rattle.commands.specs.Commands.{sentOnce, tickedOnce, goesOut, endedBy, again, takeTests, slotOf}
+use Rattle.commands.specs.Commands.{takeOf, tickOf, ends, telling, toldOf}
 use Rattle.commands.specs.Runs.{Call, take, tick, told, called, isTick, takenBy}
-use Rattle.commands.proofs.Flag.{check-other, slot-holds, good-length}
+use Rattle.commands.proofs.Endings.{one-of-four}
+use Rattle.commands.proofs.Flag.{slot-holds, good-length}
+use Rattle.commands.proofs.Refusing.{check-other, take-other, taken, take-refused, told-refused}
+use Rattle.commands.proofs.Refusing.{take-runs, tick-runs, told-runs}
 use Rattle.commands.proofs.Form.{Front, Behind, Free, Each, each-append, Form, form-waiting, form-free}
 use Rattle.commands.proofs.Form.{form-sound, sound-form}
 
--- the numbers of the ways to end: acknowledged, failed, rejected, replied, given up
+-- the numbers of the ways to end: given up, acknowledged, failed, rejected, replied
 abbrev pub ways : List ℕ
-ways = 0x1D ∷ 0x1C ∷ 0x1F ∷ 0x12 ∷ 1 ∷ []
+ways = 1 ∷ 0x1D ∷ 0x1C ∷ 0x1F ∷ 0x12 ∷ []
 
 -- a command, as it goes out
 abbrev pub goingOut : Slot → List ℕ
@@ -67,42 +69,6 @@ pub record Done (c : Call) (ws fs : List Slot) (r : After) : Type 0 where
   pub step : Step c ws (r .answer) next
   pub form : Form next free
   pub blanks : Blank fs → Blank free
-
--- ---- the calls, on sound slots
-
-module _ (xs : List Slot) (h : sound xs ≡ true) where
-  tick-does : tickOf xs ≡ ticking xs
-  unfolding tickOf
-  tick-does = rw h
-
-  told-does : (m : List ℕ)
-      → toldOf m xs ≡ cond (eqb (checkOf m) 0) (telling (numberOf (byte 1 m)) xs) (after (says (checkOf m) 0 []) xs)
-  unfolding toldOf checkOf
-  told-does m = rw h
-
-  -- the number of a take: the message's own, then 13, and 14 last
-  abbrev pub takeNumber : List ℕ → ℕ
-  takeNumber m =
-      cond (eqb (checkOf m) 0) (cond (not (oneOfThem (numberOf (byte 1 m)))) 13 (cond (eqb (waiting xs) 8) 14 0))
-      (checkOf m)
-
-  take-number : (m : List ℕ) → firstOf (takeTests m xs) ≡ takeNumber m
-  take-number m =
-      rw h (check-then m ((not (oneOfThem (numberOf (byte 1 m))), 13) ∷ (eqb (waiting xs) 8, 14) ∷ []))
-
-  -- what a take does
-  pub take-does : (m : List ℕ)
-      → takeOf m xs
-      ≡ cond (eqb (takeNumber m) 0)
-      (cond (eqb (waiting xs) 0) (goesOut 0 (placed m xs)) (after quiet (placed m xs)))
-      (after (says (takeNumber m) 0 []) xs)
-  unfolding takeOf
-  take-does m =
-      ap
-      (λ n.
-      cond (eqb n 0) (cond (eqb (waiting xs) 0) (goesOut 0 (placed m xs)) (after quiet (placed m xs)))
-      (after (says n 0 []) xs))
-      (take-number m)
 
 -- ---- one slot after a call
 
@@ -189,10 +155,10 @@ tick-done : (ws fs : List Slot) → Form ws fs → Done tick ws fs (tickOf (ws +
 unfolding takenBy
 tick-done [] [] f = let n = f .eight in absurd (omega arith)
 tick-done [] (s ∷ fs) f =
-    rw (tick-does (s ∷ fs) (form-sound [] (s ∷ fs) f), f .free .0 .empty)
+    rw (tick-runs (s ∷ fs) (form-sound [] (s ∷ fs) f), f .free .0 .empty)
     (still tick 0 [] (s ∷ fs) f (λ e. omega arith) refl (λ e. refl))
 tick-done (s ∷ t) fs f =
-    rw (tick-does (s ∷ (t ++ fs)) (form-sound (s ∷ t) fs f), not-true (unused s) (f .waits .0 .taken))
+    rw (tick-runs (s ∷ (t ++ fs)) (form-sound (s ∷ t) fs f), not-true (unused s) (f .waits .0 .taken))
     (go (eqb (s .ticks + 1) 6) refl)
   where
     go : (r : Bool) → eqb (s .ticks + 1) 6 ≡ r
@@ -212,16 +178,7 @@ tick-done (s ∷ t) fs f =
 
 -- a message that ends the front is the number of a way to end
 ends-way : (front n : ℕ) → ends front n ≡ true → among n ways ≡ true
-unfolding ends
-ends-way front n h = go (eqb n 0x1D) (eqb n 0x1C) (eqb n 0x1F) (eqb n 0x12) (among front (0x34 ∷ 0x35 ∷ [])) (eqb n 1) h
-  where
-    go : (a b c d e f : Bool) → ((a || (b || (c || false))) || (d && e)) ≡ true
-        → (a || (b || (c || (d || (f || false))))) ≡ true
-    go true b c d e f h = refl
-    go false true c d e f h = refl
-    go false false true d e f h = refl
-    go false false false true e f h = refl
-    go false false false false e f h = let z : _≡_ {A = ℕ} 0 1 = cc in absurd (omega arith)
+ends-way front n h = rw (one-of-four front n h) (or-true (eqb n 1))
 
 tells : (m : List ℕ) (ws fs : List Slot) → Form ws fs → Done (told m) ws fs (telling (numberOf (byte 1 m)) (ws ++ fs))
 unfolding takenBy isTick
@@ -242,13 +199,16 @@ tells m (s ∷ t) fs f =
 
 told-done : (m : List ℕ) (ws fs : List Slot) → Form ws fs → Done (told m) ws fs (toldOf m (ws ++ fs))
 unfolding takenBy isTick
-told-done m ws fs f = rw (told-does (ws ++ fs) (form-sound ws fs f) m) (go (eqb (checkOf m) 0))
+told-done m ws fs f = go (eqb (checkOf m) 0) refl
   where
-    go : (r : Bool)
-        → Done (told m) ws fs
-        (cond r (telling (numberOf (byte 1 m)) (ws ++ fs)) (after (says (checkOf m) 0 []) (ws ++ fs)))
-    go true = tells m ws fs f
-    go false = still (told m) (checkOf m) ws fs f (check-other m) refl (λ e. absurd (false≢true e))
+    safe : sound (ws ++ fs) ≡ true
+    safe = form-sound ws fs f
+
+    go : (r : Bool) → eqb (checkOf m) 0 ≡ r → Done (told m) ws fs (toldOf m (ws ++ fs))
+    go true e = rw (told-runs (ws ++ fs) safe m (eqb-true _ _ e)) (tells m ws fs f)
+    go false e =
+        rw (told-refused (ws ++ fs) safe m (eqb-false _ _ e))
+        (still (told m) (checkOf m) ws fs f (check-other m) refl (λ e. absurd (false≢true e)))
 
 module _ (m : List ℕ) (good : checkOf m ≡ 0) (one : oneOfThem (numberOf (byte 1 m)) ≡ true) where
   holding : (unused (slotOf m) ≡ false) × (holdsOne (slotOf m) ≡ true)
@@ -294,23 +254,22 @@ module _ (m : List ℕ) (good : checkOf m ≡ 0) (one : oneOfThem (numberOf (byt
 
 take-done : (m : List ℕ) (ws fs : List Slot) → Form ws fs → Done (take m) ws fs (takeOf m (ws ++ fs))
 unfolding takenBy isTick
-take-done m ws fs f =
-    rw (take-does (ws ++ fs) (form-sound ws fs f) m, form-waiting ws fs f, form-free ws fs f)
-    (go (eqb (checkOf m) 0) refl (oneOfThem (numberOf (byte 1 m))) refl (eqb (length ws) 8) refl)
+take-done m ws fs f = go (eqb (firstOf (takeTests m (ws ++ fs))) 0) refl
   where
-    refused : (n : ℕ) → (n ≡ 22 → ⊥) → (n ≡ 0 → ⊥) → Done (take m) ws fs (after (says n 0 []) (ws ++ fs))
-    refused n other bad = still (take m) n ws fs f other (rw (ne-eqb n 0 bad)) (λ e. absurd (false≢true e))
+    xs : List Slot
+    xs = ws ++ fs
 
-    go : (a : Bool) → eqb (checkOf m) 0 ≡ a → (b : Bool) → oneOfThem (numberOf (byte 1 m)) ≡ b
-        → (d : Bool) → eqb (length ws) 8 ≡ d
-        → let n = cond a (cond (not b) 13 (cond d 14 0)) (checkOf m) in
-        let xs = ws ++ (slotOf m ∷ drop 1 fs) in
-        Done (take m) ws fs
-        (cond (eqb n 0) (cond (eqb (length ws) 0) (goesOut 0 xs) (after quiet xs)) (after (says n 0 []) (ws ++ fs)))
-    go false p b q d r = rw p (refused (checkOf m) (check-other m) (eqb-false _ _ p))
-    go true p false q d r = refused 13 (λ e. omega arith) (λ e. omega arith)
-    go true p true q true r = refused 14 (λ e. omega arith) (λ e. omega arith)
-    go true p true q false r = placed-done m (eqb-true _ _ p) q ws fs f (eqb-false _ _ r)
+    go : (r : Bool) → eqb (firstOf (takeTests m xs)) 0 ≡ r → Done (take m) ws fs (takeOf m xs)
+    go true e =
+        let passes = eqb-true _ _ e in
+        let ok = taken m xs passes in
+        let free = rw (form-waiting ws fs f) at (eqb-false (waiting xs) 8 (ok .room)) in
+        rw (take-runs m xs passes, form-waiting ws fs f, form-free ws fs f)
+        (placed-done m (ok .good) (ok .one) ws fs f free)
+    go false e =
+        let bad = eqb-false _ _ e in
+        rw (take-refused m xs bad)
+        (still (take m) _ ws fs f (take-other m xs (form-sound ws fs f)) (rw (ne-eqb _ 0 bad)) (λ e. absurd (false≢true e)))
 
 done : (c : Call) (ws fs : List Slot) → Form ws fs → Done c ws fs (called c (ws ++ fs))
 unfolding called

@@ -1,12 +1,10 @@
 -- Each public function's promise settles its answer, and the eight slots with every byte of them: two that meet the
 -- predicate that its contract generates are equal. Assumes nothing.
 use mathlib.Core.Path.{_≡_, sym, ap, _∙_}
-use mathlib.Core.List.{List}
 use lib.ListN.{getD}
 use borrow.Fn.Kinds.{Dens, endedOf, resT}
 use contract.Lifetimes.{Lfts}
 use denote.Triple.Clauses.{AtExit}
-use Rattle.commands.specs.declared.Slot.{Slot}
 use Rattle.commands.specs.declared.Eight.{Eight}
 use Rattle.commands.specs.declared.Called.{Called}
 use Rattle.commands.specs.Commands.{blank, After, after, answerOf, row}

@@ -1,14 +1,14 @@
 -- `commands::ended_by` meets its contract: the eight slots that it makes are those of the line moved up, whose front is
 -- ready to go out. Assumes nothing.
 use native.Mathlib.Omega.{arith}
-use mathlib.Core.Path.{_≡_, sym, ap, _∙_}
+use mathlib.Core.Path.{sym, ap, _∙_}
 use mathlib.Core.List.{List, [], _∷_}
-use Prim.Native.Nat.{ℕ}
 use borrow.Author.Needs.{needs}
 use Rattle.commands.specs.declared.Slot.{Slot}
 use Rattle.commands.specs.Commands.{endedNumber, row, goesOut}
 use Rattle.commands.specs.Places.{movedTo}
-use Rattle.commands.proofs.Held.{sound-parts, moved-ready}
+use Rattle.commands.proofs.Form.{sound-tests}
+use Rattle.commands.proofs.Held.{moved-ready}
 use Rattle.commands.proofs.Slotwise.{movedRow, moves}
 use Rattle.commands.proofs.ended_by.Statement.{statement}
 use Rattle.commands.proofs.ended_by.Tie as tie
@@ -72,7 +72,7 @@ returns c =
     ∙ ap (goesOut (endedNumber (s .args .ended)))
     ((λ j. c₁ .moved-to .ensures j ∷ c₂ .moved-to2 .ensures j ∷ c₃ .moved-to3 .ensures j ∷ c₄ .moved-to4 .ensures j
     ∷ c₅ .moved-to5 .ensures j ∷ c₆ .moved-to6 .ensures j ∷ c₇ .moved-to7 .ensures j ∷ last j ∷ [])
-    ∙ sym (moves (q .s0) behind (s .pre .1) (sound-parts (row q) (s .pre .0) .first)))
+    ∙ sym (moves (q .s0) behind (s .pre .1) (sound-tests (row q) (s .pre .0) .first)))
 
 pub ended-by-spec : {M : Type 1} → statement M
 ended-by-spec =

@@ -2,30 +2,16 @@
 -- the definition. Assumes nothing.
 use Prim.Native.Nat.{ℕ, _≤_}
 use native.Mathlib.Omega.{arith}
-use mathlib.Core.Path.{_≡_, refl, sym, ap, _∙_}
-use mathlib.Core.Bool.{Bool, true, false, _&&_, _||_}
-use mathlib.Core.List.{[], _∷_}
-use lib.Dec.{eqb}
+use mathlib.Core.Path.{_≡_, sym, ap, _∙_}
 use lib.ListN.{length, drop}
 use borrow.Author.Needs.{needs}
 use borrow.Author.Tests.{eq-eqb, ne-eqb}
-use Rattle.standard.specs.Messages.{among}
 use Rattle.commands.specs.Commands.{longestCommand, numberIn, Answer, after, row, endedBy, ends}
+use Rattle.commands.proofs.Endings.{one-of-four}
+use Rattle.commands.proofs.Flag.{holds}
 use Rattle.commands.proofs.Held.{first-byte, good-some, sound-front}
 use Rattle.commands.proofs.hears.Statement.{statement}
 use Rattle.commands.proofs.hears.Tie as tie
-
--- what ends a command is one of four
-of-four : (a b c d x : Bool) → ((a || (b || (c || false))) || (d && x)) ≡ true → (a || (b || (c || (d || false)))) ≡ true
-of-four true b c d x h = refl
-of-four false true c d x h = refl
-of-four false false true d x h = refl
-of-four false false false true x h = refl
-of-four false false false false x h = h
-
-one-of-four : (front n : ℕ) → ends front n ≡ true → among n (0x1D ∷ 0x1C ∷ 0x1F ∷ 0x12 ∷ []) ≡ true
-unfolding ends
-one-of-four front n h = of-four (eqb n 0x1D) (eqb n 0x1C) (eqb n 0x1F) (eqb n 0x12) (among front (0x34 ∷ 0x35 ∷ [])) h
 
 size : (s : tie.Start) → length (s .args .q .s0 .message) ≡ longestCommand
 size s = search needs
@@ -36,9 +22,9 @@ found : (c : tie.After-ends)
 found c =
     let s = c .before .before .before in
     let q = s .args .q in
-    let front = sound-front (q .s0) (drop 1 (row q)) (s .pre .1) (s .pre .0) in
-    let whole : q .s0 .length ≤ length (q .s0 .message) = omega (arith, front .held .few, size s) in
-    let some = good-some (q .s0 .length) (q .s0 .message) whole (front .held .good) in
+    let front = holds (q .s0) (sound-front (q .s0) (drop 1 (row q)) (s .pre .1) (s .pre .0) .holds) in
+    let whole : q .s0 .length ≤ length (q .s0 .message) = omega (arith, front .few, size s) in
+    let some = good-some (q .s0 .length) (q .s0 .message) whole (front .good) in
     rw (first-byte (q .s0 .length) (q .s0 .message) some) (sym (c .ends .ensures))
 
 array-read-ends : tie.Need-array-read-ends

@@ -1,8 +1,8 @@
 -- `commands::one_of_them` meets its contract: the ranges and the list say the same of every byte, by one computed test.
 -- Assumes nothing.
 use Prim.Native.Nat.{ℕ}
-use mathlib.Core.Bool.{Bool, _&&_, _||_}
-use lib.Dec.{eqb, leb}
+use mathlib.Core.Bool.{Bool, _||_}
+use lib.Dec.{eqb}
 use borrow.Author.Needs.{needs}
 use Rattle.standard.specs.Messages.{within}
 use Rattle.standard.proofs.Tables.{alike}

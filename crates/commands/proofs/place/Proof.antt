@@ -10,7 +10,7 @@ use borrow.Author.Tests.{eqb-false}
 use Rattle.commands.specs.declared.Slot.{Slot}
 use Rattle.commands.specs.Commands.{waiting, row, slotOf}
 use Rattle.commands.proofs.Flag.{few-bytes, good-length}
-use Rattle.commands.proofs.Held.{sound-parts}
+use Rattle.commands.proofs.Form.{sound-tests}
 use Rattle.commands.proofs.Slotwise.{waits-most, putRow, puts}
 use Rattle.commands.proofs.Refusing.{taken}
 use Rattle.commands.proofs.place.Statement.{statement}
@@ -74,7 +74,7 @@ returns c =
     (λ j. c₁ .put-in .ensures j ∷ c₂ .put-in2 .ensures j ∷ c₃ .put-in3 .ensures j ∷ c₄ .put-in4 .ensures j
     ∷ c₅ .put-in5 .ensures j ∷ c₆ .put-in6 .ensures j ∷ c₇ .put-in7 .ensures j ∷ c .put-in8 .ensures j ∷ [])
     ∙ ap (λ (x : Slot). putRow x true (row q)) same
-    ∙ sym (puts (slotOf m) (row q) (sound-parts (row q) (ok .sound) .first)
+    ∙ sym (puts (slotOf m) (row q) (sound-tests (row q) (ok .sound) .first)
     (omega (arith, waits-most (row q), eqb-false (waiting (row q)) 8 (ok .room))))
 
 pub place-spec : {M : Type 1} → statement M

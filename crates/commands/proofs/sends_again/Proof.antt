@@ -4,7 +4,7 @@ use lib.ListN.{drop}
 use borrow.Author.Needs.{needs}
 use borrow.Author.Tests.{le-leb, lt-leb}
 use Rattle.commands.specs.Commands.{row}
-use Rattle.commands.proofs.Held.{sound-front}
+use Rattle.commands.proofs.Held.{sound-front, front-few}
 use Rattle.commands.proofs.sends_again.Statement.{statement}
 use Rattle.commands.proofs.sends_again.Tie as tie
 
@@ -12,8 +12,8 @@ goes-out-requires : tie.Need-goes-out-requires
 goes-out-requires c κs =
     let s = c .before .before .before in
     let q = s .args .q in
-    let front = sound-front (q .s0) (drop 1 (row q)) (s .pre .1) (s .pre .0) in
-    (front .most, front .held .few)
+    let behind = drop 1 (row q) in
+    (sound-front (q .s0) behind (s .pre .1) (s .pre .0) .few, front-few (q .s0) behind (s .pre .1) (s .pre .0))
 
 ended-by-requires : tie.Need-ended-by-requires
 ended-by-requires c κs = search needs

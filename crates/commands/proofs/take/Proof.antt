@@ -11,9 +11,9 @@ use Rattle.standard.specs.Words.{firstOf}
 use Rattle.commands.specs.declared.Slot.{Slot}
 use Rattle.commands.specs.Commands.{unused, those, Answer, says, quiet, after, row, goesOut, takeTests, slotOf}
 use Rattle.commands.proofs.Flag.{few-bytes}
-use Rattle.commands.proofs.Held.{sound-parts}
+use Rattle.commands.proofs.Form.{sound-tests}
 use Rattle.commands.proofs.Slotwise.{empty-line, some-line}
-use Rattle.commands.proofs.Refusing.{taken, take-refused, take-done}
+use Rattle.commands.proofs.Refusing.{taken, take-refused, take-runs}
 use Rattle.commands.proofs.take.Statement.{statement}
 use Rattle.commands.proofs.take.Tie as tie
 
@@ -48,7 +48,7 @@ goes-out-requires c κs =
     let m = a .message .now in
     let q = a .q in
     let ok = taken m (row q) (passes first) in
-    let none = empty-line (q .s0) (drop 1 (row q)) (eq-eqb _ _ (c .if2 .taken)) (sound-parts (row q) (ok .sound) .first) in
+    let none = empty-line (q .s0) (drop 1 (row q)) (eq-eqb _ _ (c .if2 .taken)) (sound-tests (row q) (ok .sound) .first) in
     let front : call .place .result .s0 ≡ slotOf m =
     ap (λ (l : List Slot). getD l 0 (slotOf m)) (call .place .ensures ∙ ap (λ (l : List Slot). l ++ (slotOf m ∷ drop 1 (those unused (row q)))) none) in (
       omega (arith, ap (λ (s : Slot). s .sent) front),
@@ -66,8 +66,8 @@ returns-2 c =
     let a = first .before .before .before .args in
     let q = a .q in
     let ok = taken (a .message .now) (row q) (passes first) in
-    let none = empty-line (q .s0) (drop 1 (row q)) (eq-eqb _ _ (test .if2 .taken)) (sound-parts (row q) (ok .sound) .first) in
-    rw (take-done (a .message .now) (row q) (passes first), ap length none) (c .goes-out .ensures ∙ ap (goesOut 0) (call .place .ensures))
+    let none = empty-line (q .s0) (drop 1 (row q)) (eq-eqb _ _ (test .if2 .taken)) (sound-tests (row q) (ok .sound) .first) in
+    rw (take-runs (a .message .now) (row q) (passes first), ap length none) (c .goes-out .ensures ∙ ap (goesOut 0) (call .place .ensures))
 
 returns-3 : tie.Need-returns-3
 returns-3 c =
@@ -76,7 +76,7 @@ returns-3 c =
     let first = call .before in
     let a = first .before .before .before .args in
     let q = a .q in
-    rw (take-done (a .message .now) (row q) (passes first), some-line (q .s0) (drop 1 (row q)) (ne-eqb _ _ (test .if2 .left)))
+    rw (take-runs (a .message .now) (row q) (passes first), some-line (q .s0) (drop 1 (row q)) (ne-eqb _ _ (test .if2 .left)))
     (ap (λ (x : Answer). after x (row (call .place .result))) (c .refused2 .ensures) ∙ ap (after quiet) (call .place .ensures))
 
 pub take-spec : {M : Type 1} → statement M

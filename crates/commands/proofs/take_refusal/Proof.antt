@@ -9,7 +9,7 @@ use Rattle.standard.specs.Messages.{checkOf}
 use Rattle.commands.specs.declared.Slot.{Slot}
 use Rattle.commands.specs.Commands.{used, sound, row, takeTests}
 use Rattle.commands.proofs.Flag.{good-length}
-use Rattle.commands.proofs.Held.{sound-parts}
+use Rattle.commands.proofs.Form.{sound-tests}
 use Rattle.commands.proofs.Slotwise.{lastOf, full}
 use Rattle.commands.proofs.Refusing.{take-22, take-check, take-13, take-last}
 use Rattle.commands.proofs.take_refusal.Statement.{statement}
@@ -37,7 +37,7 @@ by-last c t e =
     let q = a .q in
     let behind : List Slot = q .s1 ∷ q .s2 ∷ q .s3 ∷ q .s4 ∷ q .s5 ∷ q .s6 ∷ q .s7 ∷ [] in
     take-last (a .message .now) (row q) (is-sound first) (is-good good) (sym (c .before .one-of-them .ensures) ∙ not-false _ (c .if3 .left))
-    ∙ ap (λ (u : Bool). cond u 14 0) (full (q .s0) behind (sound-parts (row q) (is-sound first) .first) ∙ e)
+    ∙ ap (λ (u : Bool). cond u 14 0) (full (q .s0) behind (sound-tests (row q) (is-sound first) .first) ∙ e)
 
 sound-requires : tie.Need-sound-requires
 sound-requires c κs = search needs

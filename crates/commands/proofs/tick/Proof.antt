@@ -9,7 +9,7 @@ use borrow.Author.Needs.{needs}
 use borrow.Author.Tests.{eq-eqb, ne-eqb, not-true, not-false}
 use Rattle.commands.specs.Commands.{sound, Answer, after, row, tickedOnce}
 use Rattle.commands.proofs.Held.{sound-front}
-use Rattle.commands.proofs.Refusing.{tick-unsound, tick-done}
+use Rattle.commands.proofs.Refusing.{tick-unsound, tick-runs}
 use Rattle.commands.proofs.tick.Statement.{statement}
 use Rattle.commands.proofs.tick.Tie as tie
 
@@ -38,7 +38,7 @@ returns-2 c =
     let test = c .before in
     let kept = test .before .before .before in
     let xs = row (kept .before .before .args .q) in
-    rw (tick-done xs (is-sound kept), eq-eqb _ _ (test .if2 .taken)) (ap (λ (a : Answer). after a xs) (c .refused2 .ensures))
+    rw (tick-runs xs (is-sound kept), eq-eqb _ _ (test .if2 .taken)) (ap (λ (a : Answer). after a xs) (c .refused2 .ensures))
 
 sends-again-requires : tie.Need-sends-again-requires
 sends-again-requires c κs =
@@ -53,7 +53,7 @@ returns-3 c =
     let waits = ne-eqb _ _ (test .if2 .left) in
     let front = sound-front (q .s0) (drop 1 (row q)) waits (is-sound kept) in
     let six : q .s0 .ticks + 1 ≡ 6 = omega (arith, front .early, sixth .if3 .taken) in
-    rw (tick-done (row q) (is-sound kept), waits, eq-eqb _ _ six) (c .sends-again .ensures)
+    rw (tick-runs (row q) (is-sound kept), waits, eq-eqb _ _ six) (c .sends-again .ensures)
 
 add-t10 : tie.Need-add-t10
 add-t10 c = search needs
@@ -68,7 +68,7 @@ returns-4 c =
     let kept = test .before .before .before in
     let q = kept .before .before .args .q in
     let few : q .s0 .ticks + 1 ≡ 6 → ⊥ = λ e. omega (arith, sooner .if3 .left, e) in
-    rw (tick-done (row q) (is-sound kept), ne-eqb _ _ (test .if2 .left), ne-eqb _ _ few)
+    rw (tick-runs (row q) (is-sound kept), ne-eqb _ _ (test .if2 .left), ne-eqb _ _ few)
     (ap (λ (a : Answer). after a (tickedOnce (q .s0) ∷ drop 1 (row q))) (c .refused3 .ensures))
 
 pub tick-spec : {M : Type 1} → statement M

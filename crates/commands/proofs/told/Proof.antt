@@ -8,7 +8,7 @@ use borrow.Author.Tests.{eq-eqb, ne-eqb, not-true, not-false}
 use Rattle.standard.specs.Messages.{checkOf}
 use Rattle.commands.specs.Commands.{sound, Answer, says, after, row}
 use Rattle.commands.proofs.Flag.{good-length}
-use Rattle.commands.proofs.Refusing.{told-unsound, told-refused, told-done}
+use Rattle.commands.proofs.Refusing.{told-unsound, told-refused, told-runs}
 use Rattle.commands.proofs.told.Statement.{statement}
 use Rattle.commands.proofs.told.Tie as tie
 
@@ -60,7 +60,7 @@ returns-3 c =
     let first = good .before .before in
     let a = start first .args in
     let xs = row (a .q) in
-    rw (told-done xs (is-sound first) (a .message .now) (is-good good), eq-eqb _ _ (test .if3 .taken))
+    rw (told-runs xs (is-sound first) (a .message .now) (is-good good), eq-eqb _ _ (test .if3 .taken))
     (ap (λ (x : Answer). after x xs) (c .refused3 .ensures))
 
 shared-slice-read-hears : tie.Need-shared-slice-read-hears
@@ -77,7 +77,7 @@ returns-4 c =
     let good = c .before .before .before .before in
     let first = good .before .before in
     let a = start first .args in
-    c .hears .ensures ∙ sym (told-done (row (a .q)) (is-sound first) (a .message .now) (is-good good))
+    c .hears .ensures ∙ sym (told-runs (row (a .q)) (is-sound first) (a .message .now) (is-good good))
 
 pub told-spec : {M : Type 1} → statement M
 told-spec =
