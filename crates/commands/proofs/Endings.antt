@@ -1,4 +1,4 @@
--- How the front ended is told by its number, so that an answer in the paper's numbers tells the answer. Assumes nothing.
+-- How the front ended is told by its number, and an answer by its numbers. Assumes nothing.
 use Prim.Native.Nat.{ℕ}
 use mathlib.Core.Path.{_≡_, refl, sym, ap, _∙_}
 use mathlib.Core.Bool.{Bool, true, false, cond, _&&_, _||_}
@@ -38,7 +38,8 @@ sending-one {x} {y} e =
     λ j. record { number = e j .number; ended = ended j; length = e j .length; message = e j .message }
 
 -- what ends a command is one of four
-of-four : (a b c d x : Bool) → ((a || (b || (c || false))) || (d && x)) ≡ true → (a || (b || (c || (d || false)))) ≡ true
+of-four : (a b c d x : Bool) → ((a || (b || (c || false))) || (d && x)) ≡ true
+    → (a || (b || (c || (d || false)))) ≡ true
 of-four true b c d x h = refl
 of-four false true c d x h = refl
 of-four false false true d x h = refl

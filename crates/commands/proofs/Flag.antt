@@ -99,7 +99,8 @@ few-bytes m h o =
 
 -- what a slot holds that a command has just been put into
 pub slot-message : (m : List ℕ) → messageIn (slotOf m) ≡ flagged m
-slot-message m = take-at (flagged m) (drop (0 + length (flagged m)) (replicate longestCommand 0)) (length m) (flagged-length m)
+slot-message m =
+    take-at (flagged m) (drop (0 + length (flagged m)) (replicate longestCommand 0)) (length m) (flagged-length m)
 
 -- it holds a good one of the 14, if that was one
 pub slot-holds : (m : List ℕ) → checkOf m ≡ 0 → oneOfThem (numberOf (byte 1 m)) ≡ true → holdsOne (slotOf m) ≡ true

@@ -13,7 +13,8 @@ use Rattle.commands.specs.declared.Slot.{Slot}
 use Rattle.commands.specs.Commands.{waiting, waitingIn, sound, Answer}
 use Rattle.commands.specs.Runs.{Call, empty, answers, slotsAfter, takenIn, endsIn, line, lower, moved, placeAfter}
 use Rattle.commands.proofs.Step.{goingOut}
-use Rattle.commands.proofs.Lost.{endsBy, Less, line-after, line-from-empty}
+use Rattle.commands.specs.Runs.{endsBy, Less, Followed}
+use Rattle.commands.proofs.Lost.{line-after, line-from-empty}
 
 -- a command that has ended has no place again
 pub ended-stays : (said : List Answer) → placeAfter said none ≡ none
@@ -48,12 +49,6 @@ place-falls [] k j h = let e : k ≡ j = cc in omega arith
 place-falls (a ∷ said) k j h =
     let x = place-then a said k j h in
     omega (arith, moved-falls a k (x .0) (x .1), place-falls said (x .0) j (x .2))
-
--- a command that had k of some ahead of it: after n ends it waits with j ahead of it
-pub record Followed (before : List (List ℕ)) (n : ℕ) (after : List Slot) (k j : ℕ) : Type 0 where
-  pub ahead : j + n ≡ k
-  pub waits : j < waiting after
-  pub same : getD (line after) j [] ≡ getD before k []
 
 followed : (before : List (List ℕ)) (n : ℕ) (after : List Slot) (k j : ℕ) → Less n before (line after) → j + n ≡ k
     → k < length before → Followed before n after k j

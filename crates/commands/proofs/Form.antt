@@ -13,6 +13,7 @@ use Rattle.standard.proofs.Messages.{both-true}
 use Rattle.commands.specs.declared.Slot.{Slot}
 use Rattle.commands.specs.Commands.{used, unused, those, every, waitingIn, usedFirst, holdsOne, outstanding, idle}
 use Rattle.commands.specs.Commands.{onlyFirst, sound}
+use Rattle.commands.specs.Runs.{Each}
 
 -- ---- one slot
 
@@ -62,12 +63,6 @@ counts-idle s p q = rw (eq-eqb (s .sent) 0 p, eq-eqb (s .ticks) 0 q)
 
 -- ---- slots in a row
 
--- every one of some things has a property
-abbrev pub Each : {A : Type 0} → (A → Type 0) → List A → Type 0
-Each P [] = Unit
-Each P (s ∷ t) = P s × Each P t
-
--- as one of either of two parts has
 pub each-append : (P : Slot → Type 0) (a b : List Slot) → Each P a → Each P b → Each P (a ++ b)
 each-append P [] b p q = q
 each-append P (s ∷ a) b p q = (p .0, each-append P a b (p .1) q)
@@ -262,8 +257,3 @@ form-sound ws fs f =
       form-waiting ws fs f,
       u .1,
     ) (only-first ws fs (f .waits) (f .free))
-
--- the first slot of sound slots, where it is used
-pub sound-front : (s : Slot) (t : List Slot) → sound (s ∷ t) ≡ true → used s ≡ true → Front s
-unfolding those
-sound-front s t h u = (rw (not-true (unused s) u) at (sound-waits (s ∷ t) h)) .0

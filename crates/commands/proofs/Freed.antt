@@ -11,11 +11,12 @@ use borrow.Author.Tests.{ne-eqb}
 use Rattle.standard.specs.Words.{byte, firstOf}
 use Rattle.standard.specs.Messages.{numberOf, checkOf}
 use Rattle.commands.specs.declared.Slot.{Slot}
-use Rattle.commands.specs.Commands.{oneOfThem, blank, used, unused, those, waiting, sound, After, goesOut, placed, takeTests}
-use Rattle.commands.specs.Runs.{Call, take, called, empty, slotsAfter}
+use Rattle.commands.specs.Commands.{oneOfThem, blank, used, unused, those, waiting, sound, After, goesOut}
+use Rattle.commands.specs.Commands.{placed, takeTests}
+use Rattle.commands.specs.Runs.{Call, take, called, empty, slotsAfter, Blank}
 use Rattle.commands.proofs.Form.{form-free}
 use Rattle.commands.proofs.Refusing.{take-last, take-runs}
-use Rattle.commands.proofs.Step.{Blank, called-done}
+use Rattle.commands.proofs.Step.{called-done}
 use Rattle.commands.proofs.Kept.{kept, empty-sound}
 
 call-frees : (c : Call) (xs : List Slot) → sound xs ≡ true → Blank (those unused xs)

@@ -11,8 +11,9 @@ use Rattle.standard.specs.Messages.{checkOf}
 use Rattle.commands.specs.declared.Slot.{Slot}
 use Rattle.commands.specs.Commands.{longestCommand, unused, waitingIn, sound}
 use Rattle.commands.specs.Places.{movedTo}
+use Rattle.commands.specs.Runs.{Each}
 use Rattle.commands.proofs.Flag.{good-length, holds}
-use Rattle.commands.proofs.Form.{Front, Behind, Each, sound-waits}
+use Rattle.commands.proofs.Form.{Front, Behind, sound-waits}
 use Rattle.commands.proofs.Slotwise.{waits-used}
 
 -- a message that is a part from the beginning on has its first byte

@@ -10,23 +10,12 @@ use lib.ListN.{length, length-append, length-map}
 use Rattle.commands.specs.declared.Slot.{Slot}
 use Rattle.commands.specs.Commands.{flagged, waiting, waitingIn, sound, Answer}
 use Rattle.commands.specs.Runs.{Call, take, called, answers, slotsAfter, isTick, ticksIn, line, moved, placeAfter}
+use Rattle.commands.specs.Runs.{endsBy, ticksBy, left}
 use Rattle.commands.proofs.Form.{Waits, sound-waits}
 use Rattle.commands.proofs.Step.{Step, stays, counts, repeats, empties, moves, begins, joins, goingOut, step}
 use Rattle.commands.proofs.Kept.{kept, run-kept}
-use Rattle.commands.proofs.Lost.{endsBy, way-ends, take-last}
+use Rattle.commands.proofs.Lost.{way-ends, take-last}
 use Rattle.commands.proofs.Follow.{moved-falls, place-then, place-holds}
-
--- the ticks that the front can still wait: six for each sending left to it, and what is left of the six since its last
-abbrev pub frontLeft : List Slot → ℕ
-frontLeft [] = 0
-frontLeft (s ∷ t) = 6 * (4 - s .sent) + (6 - s .ticks)
-
--- and that a command can which has k ahead of it
-abbrev pub left : List Slot → ℕ → ℕ
-left ws k = 24 * k + frontLeft ws
-
-abbrev ticksBy : Call → ℕ
-ticksBy c = cond (isTick c) 1 0
 
 one-tick : (c : Call) → ticksBy c ≤ 1
 one-tick c = go (isTick c)

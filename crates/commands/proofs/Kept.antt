@@ -5,8 +5,8 @@ use mathlib.Core.Bool.{true}
 use mathlib.Core.List.{List, [], _∷_}
 use Rattle.commands.specs.declared.Slot.{Slot}
 use Rattle.commands.specs.Commands.{every, those, usedFirst, sound, Answer}
-use Rattle.commands.specs.Runs.{Call, called, empty, answers, slotsAfter}
-use Rattle.commands.proofs.Form.{Each, form-sound}
+use Rattle.commands.specs.Runs.{Call, called, empty, answers, slotsAfter, Each}
+use Rattle.commands.proofs.Form.{form-sound}
 use Rattle.commands.proofs.Step.{Step, stays, counts, repeats, empties, moves, begins, joins, called-done, step}
 
 -- by every call

@@ -13,3 +13,4 @@ pub mod InTime
 pub mod Order
 pub mod Freed
 pub mod Unique
+pub mod Bench

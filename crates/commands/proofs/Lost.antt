@@ -15,17 +15,13 @@ use Rattle.standard.proofs.Words.{map-append}
 use Rattle.commands.specs.declared.Slot.{Slot}
 use Rattle.commands.specs.Commands.{flagged, those, waiting, waitingIn, sound, Answer, quiet, slotOf}
 use Rattle.commands.specs.Runs.{Call, take, called, empty, answers, slotsAfter, takenBy, takenIn, endedIn, endsIn}
-use Rattle.commands.specs.Runs.{line}
+use Rattle.commands.specs.Runs.{line, endsBy, Less}
 use Rattle.commands.proofs.Flag.{flagged-twice, slot-message, among-passes}
 use Rattle.commands.proofs.Step.{Step, stays, counts, repeats, empties, moves, begins, joins, ways, goingOut}
 use Rattle.commands.proofs.Step.{step}
 use Rattle.commands.proofs.Kept.{kept, empty-sound}
 
 -- ---- one call
-
--- how many have ended by an answer
-abbrev pub endsBy : Answer → ℕ
-endsBy a = cond (eqb (a .ended) 0) 0 1
 
 -- each way is an end
 pub way-ends : (e : ℕ) → among e ways ≡ true → eqb e 0 ≡ false
@@ -34,11 +30,6 @@ way-ends e h = not-true (eqb e 0) (among-passes (λ k. not (eqb k 0)) ways e ref
 -- a command that has just been taken goes out as it was counted
 slot-goes : (m : List ℕ) → goingOut (slotOf m) ≡ flagged m
 slot-goes m = ap flagged (slot-message m) ∙ flagged-twice m
-
--- what is left of a list, less the first n, of which it has so many
-pub record Less (n : ℕ) (all left : List (List ℕ)) : Type 0 where
-  pub rest : left ≡ drop n all
-  pub enough : n ≤ length all
 
 less-none : (l : List (List ℕ)) → Less 0 (l ++ []) l
 less-none l = record { rest = sym (append-nil l); enough = omega arith }

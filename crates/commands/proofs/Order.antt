@@ -14,12 +14,12 @@ use Rattle.commands.specs.declared.Slot.{Slot}
 use Rattle.commands.specs.Commands.{those, waiting, waitingIn, sound, Answer, says, quiet, padded, sentOnce}
 use Rattle.commands.specs.Commands.{slotOf}
 use Rattle.commands.specs.Runs.{Call, called, empty, answers, slotsAfter, takenIn, endsIn, line, moved}
-use Rattle.commands.specs.Runs.{placeAfter, wentOut, sendings}
+use Rattle.commands.specs.Runs.{placeAfter, wentOut, sendings, endsBy, sentIn, Each}
 use Rattle.commands.proofs.Flag.{held-length}
-use Rattle.commands.proofs.Form.{Behind, Each, Waits, sound-waits}
+use Rattle.commands.proofs.Form.{Behind, Waits, sound-waits}
 use Rattle.commands.proofs.Step.{Step, stays, counts, repeats, empties, moves, begins, joins, goingOut, step}
 use Rattle.commands.proofs.Kept.{kept, run-kept, empty-sound}
-use Rattle.commands.proofs.Lost.{endsBy, way-ends, line-after}
+use Rattle.commands.proofs.Lost.{way-ends, line-after}
 use Rattle.commands.proofs.Follow.{moved-falls, place-then, place-falls}
 
 -- ---- what goes out
@@ -89,10 +89,6 @@ goes-at-once c xs h why left none-out =
     omega (arith, step-goes (step c xs h) w why left)
 
 -- ---- how often it goes out
-
--- how often the commands that wait have gone out, by their slots
-abbrev pub sentIn : List Slot → List ℕ
-sentIn ws = map (λ (s : Slot). s .sent) ws
 
 no-message : (a : Answer) (j : ℕ) → a .length ≡ 0 → wentOut a (some j) ≡ 0
 unfolding wentOut

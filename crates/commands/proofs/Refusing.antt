@@ -107,7 +107,8 @@ other-by m true true false h = omega (arith, h)
 
 pub take-other : (m : List ℕ) (xs : List Slot) → sound xs ≡ true → firstOf (takeTests m xs) ≡ 22 → ⊥
 take-other m xs e h =
-    let by : firstOf (takeTests m xs) ≡ cond (eqb (checkOf m) 0) (firstOf (later m xs)) (checkOf m) = take-tests m xs ∙ rw e in
+    let by : firstOf (takeTests m xs) ≡ cond (eqb (checkOf m) 0) (firstOf (later m xs)) (checkOf m) =
+    take-tests m xs ∙ rw e in
     other-by m (eqb (checkOf m) 0) (oneOfThem (numberOf (byte 1 m))) (eqb (waiting xs) 8) (sym by ∙ h)
 
 -- a command that is not refused

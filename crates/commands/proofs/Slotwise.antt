@@ -40,7 +40,9 @@ sooner x false y = and-false x
 
 both-sooner : (f h x i y : Bool) → ((f && (h && x)) && (i && y)) ≡ ((i && h) && ((f && x) && y))
 both-sooner f true x i y = sooner (f && x) i y ∙ sym (ap (λ (t : Bool). t && ((f && x) && y)) (and-true i))
-both-sooner f false x i y = ap (λ (t : Bool). t && (i && y)) (and-false f) ∙ sym (ap (λ (t : Bool). t && ((f && x) && y)) (and-false i))
+both-sooner f false x i y =
+    ap (λ (t : Bool). t && (i && y)) (and-false f)
+    ∙ sym (ap (λ (t : Bool). t && ((f && x) && y)) (and-false i))
 
 -- ---- one slot more
 
@@ -125,7 +127,9 @@ module _ (s b : Slot) (t : List Slot) where
 
   rest-free : unused b ≡ true → rest s (b ∷ t) ≡ (behindOk s b && rest b t)
   unfolding every behindOk
-  rest-free f = rw (free-behind f (unused s) refl, waits-free b t f, f) (sooner (usedFirst (b ∷ t) && every holdsOne (waitingIn t)) (idle b) (every idle t))
+  rest-free f =
+      rw (free-behind f (unused s) refl, waits-free b t f, f)
+      (sooner (usedFirst (b ∷ t) && every holdsOne (waitingIn t)) (idle b) (every idle t))
 
   rest-used : unused b ≡ false → (e : Bool) → unused s ≡ e → rest s (b ∷ t) ≡ (behindOk s b && rest b t)
   unfolding every behindOk
@@ -218,7 +222,8 @@ puts-at : (new s : Slot) (t : List Slot) (next : usedFirst t ≡ true → waitin
 unfolding putIn
 puts-at new s t next true e h k =
     let free = sym (first-free s t e) ∙ h in
-    rw (waits-free s t e, frees-free s t e, none-waits t free, all-free t free, e) (ap (_∷_ new) (sym (untouched new t free)))
+    rw (waits-free s t e, frees-free s t e, none-waits t free, all-free t free, e)
+    (ap (_∷_ new) (sym (untouched new t free)))
 puts-at new s t next false e h k =
     let more : waiting (s ∷ t) ≡ suc (waiting t) = ap length (waits-used s t e) in
     rw (waits-used s t e, frees-used s t e, e)
@@ -265,5 +270,6 @@ full-behind s [] e h = rw e
 full-behind s (b ∷ t) e h = full-at b t (full-behind b t) (unused b) refl h
 
 -- all wait exactly if the last does
-pub full : (s : Slot) (t : List Slot) → usedFirst (s ∷ t) ≡ true → eqb (waiting (s ∷ t)) (suc (length t)) ≡ used (lastOf s t)
+pub full : (s : Slot) (t : List Slot) → usedFirst (s ∷ t) ≡ true
+    → eqb (waiting (s ∷ t)) (suc (length t)) ≡ used (lastOf s t)
 full s t h = full-at s t (full-behind s t) (unused s) refl h

@@ -16,12 +16,12 @@ use Rattle.commands.specs.Commands.{oneOfThem, flagged, blank, used, unu
 use Rattle.commands.specs.Commands.{waitingIn, waiting, holdsOne, sound, Answer, says, quiet, After, after}
 use Rattle.commands.specs.Commands.{sentOnce, tickedOnce, goesOut, endedBy, again, takeTests, slotOf}
 use Rattle.commands.specs.Commands.{takeOf, tickOf, ends, telling, toldOf}
-use Rattle.commands.specs.Runs.{Call, take, tick, told, called, isTick, takenBy}
+use Rattle.commands.specs.Runs.{Call, take, tick, told, called, isTick, takenBy, Each, Blank}
 use Rattle.commands.proofs.Endings.{one-of-four}
 use Rattle.commands.proofs.Flag.{slot-holds, good-length}
 use Rattle.commands.proofs.Refusing.{check-other, take-other, taken, take-refused, told-refused}
 use Rattle.commands.proofs.Refusing.{take-runs, tick-runs, told-runs}
-use Rattle.commands.proofs.Form.{Front, Behind, Free, Each, each-append, Form, form-waiting, form-free}
+use Rattle.commands.proofs.Form.{Front, Behind, Free, each-append, Form, form-waiting, form-free}
 use Rattle.commands.proofs.Form.{form-sound, sound-form}
 
 -- the numbers of the ways to end: given up, acknowledged, failed, rejected, replied
@@ -56,10 +56,6 @@ pub data Step : Call → List Slot → Answer → List Slot → Type 0 where
   begins : {m : List ℕ} → Step (take m) [] (says 0 0 (goingOut (slotOf m))) (sentOnce (slotOf m) ∷ [])
   -- a command is taken behind others
   joins : {m : List ℕ} {s : Slot} {t : List Slot} → Step (take m) (s ∷ t) quiet (s ∷ (t ++ (slotOf m ∷ [])))
-
--- slots that are all zero
-abbrev pub Blank : List Slot → Type 0
-Blank fs = Each (λ (s : Slot). s ≡ blank) fs
 
 -- a call is one of these, and leaves two parts again; where the free slots are all zero they stay so
 pub record Done (c : Call) (ws fs : List Slot) (r : After) : Type 0 where
@@ -269,7 +265,8 @@ take-done m ws fs f = go (eqb (firstOf (takeTests m (ws ++ fs))) 0) refl
     go false e =
         let bad = eqb-false _ _ e in
         rw (take-refused m xs bad)
-        (still (take m) _ ws fs f (take-other m xs (form-sound ws fs f)) (rw (ne-eqb _ 0 bad)) (λ e. absurd (false≢true e)))
+        (still (take m) _ ws fs f (take-other m xs (form-sound ws fs f)) (rw (ne-eqb _ 0 bad))
+        (λ e. absurd (false≢true e)))
 
 done : (c : Call) (ws fs : List Slot) → Form ws fs → Done c ws fs (called c (ws ++ fs))
 unfolding called

@@ -1,3 +1,4 @@
 pub mod Commands
 pub mod Places
 pub mod Runs
+pub mod Cards

@@ -20,7 +20,8 @@ unfolding ends
 returns c =
     let n = c .args .number in
     let front = c .args .front in
-    ap₂ _||_ (three (eqb n 0x1D) (eqb n 0x1C) (eqb n 0x1F)) (ap (_&&_ (eqb n 0x12)) (two (eqb front 0x34) (eqb front 0x35)))
+    ap₂ _||_ (three (eqb n 0x1D) (eqb n 0x1C) (eqb n 0x1F))
+    (ap (_&&_ (eqb n 0x12)) (two (eqb front 0x34) (eqb front 0x35)))
 
 pub ends-spec : {M : Type 1} → statement M
 ends-spec = tie.close (tie.spec returns)

@@ -40,7 +40,8 @@ returns : tie.Need-returns
 unfolding goesOut
 returns c =
     let test = c .before in
-    simp (eq-eqb _ _ (test .if1 .taken)) (ap (λ (a : Answer). after a (row (test .before .before .before .args .q))) (c .silent .ensures))
+    let q = test .before .before .before .args .q in
+    simp (eq-eqb _ _ (test .if1 .taken)) (ap (λ (a : Answer). after a (row q)) (c .silent .ensures))
 
 cast-n : tie.Need-cast-n
 cast-n c = search needs
@@ -69,7 +70,8 @@ returns-2 c =
     let size : q .s0 .length ≡ length (flagged (messageIn (q .s0))) =
     sym (length-out (q .s0 .length) (q .s0 .message) (fits s)) in
     simp (ne-eqb _ _ (at .before .before .before .if1 .left)) (λ j.
-    after (answer (endedNumber (s .args .ended)) (size j) (c .before .with-flag .ensures j)) (sentOnce (q .s0) ∷ drop 1 (row q)))
+    after (answer (endedNumber (s .args .ended)) (size j) (c .before .with-flag .ensures j))
+    (sentOnce (q .s0) ∷ drop 1 (row q)))
 
 pub goes-out-spec : {M : Type 1} → statement M
 goes-out-spec =

@@ -1,9 +1,10 @@
--- `commands::place` meets its contract: the eight slots that it makes are those of the line with the command in its first
--- free slot. Assumes nothing.
+-- `commands::place` meets its contract: the eight slots that it makes are those of the line with the command in its
+-- first free slot. Assumes nothing.
+use Prim.Native.Nat.{ℕ}
 use native.Mathlib.Omega.{arith}
 use mathlib.Core.Path.{_≡_, sym, ap, _∙_}
 use mathlib.Core.Bool.{true}
-use mathlib.Core.List.{[], _∷_}
+use mathlib.Core.List.{List, [], _∷_}
 use lib.ListN.{length}
 use borrow.Author.Needs.{needs}
 use borrow.Author.Tests.{eqb-false}
@@ -69,8 +70,9 @@ returns c =
     let q = s .args .q in
     let m = s .args .message .now in
     let ok = taken m (row q) (s .pre) in
-    let new : Slot = record { length = length m; sent = 0; ticks = 0; message = c₁ .before .with-flag .result } in
-    let same : new ≡ slotOf m = λ j. record { length = length m; sent = 0; ticks = 0; message = c₁ .before .with-flag .ensures j } in
+    let flag = c₁ .before .with-flag in
+    let new : List ℕ → Slot = λ b. record { length = length m; sent = 0; ticks = 0; message = b } in
+    let same : new (flag .result) ≡ slotOf m = ap new (flag .ensures) in
     (λ j. c₁ .put-in .ensures j ∷ c₂ .put-in2 .ensures j ∷ c₃ .put-in3 .ensures j ∷ c₄ .put-in4 .ensures j
     ∷ c₅ .put-in5 .ensures j ∷ c₆ .put-in6 .ensures j ∷ c₇ .put-in7 .ensures j ∷ c .put-in8 .ensures j ∷ [])
     ∙ ap (λ (x : Slot). putRow x true (row q)) same

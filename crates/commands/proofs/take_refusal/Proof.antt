@@ -36,7 +36,8 @@ by-last c t e =
     let a = start first .args in
     let q = a .q in
     let behind : List Slot = q .s1 ∷ q .s2 ∷ q .s3 ∷ q .s4 ∷ q .s5 ∷ q .s6 ∷ q .s7 ∷ [] in
-    take-last (a .message .now) (row q) (is-sound first) (is-good good) (sym (c .before .one-of-them .ensures) ∙ not-false _ (c .if3 .left))
+    let one = sym (c .before .one-of-them .ensures) ∙ not-false _ (c .if3 .left) in
+    take-last (a .message .now) (row q) (is-sound first) (is-good good) one
     ∙ ap (λ (u : Bool). cond u 14 0) (full (q .s0) behind (sound-tests (row q) (is-sound first) .first) ∙ e)
 
 sound-requires : tie.Need-sound-requires

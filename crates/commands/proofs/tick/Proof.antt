@@ -38,7 +38,8 @@ returns-2 c =
     let test = c .before in
     let kept = test .before .before .before in
     let xs = row (kept .before .before .args .q) in
-    rw (tick-runs xs (is-sound kept), eq-eqb _ _ (test .if2 .taken)) (ap (λ (a : Answer). after a xs) (c .refused2 .ensures))
+    rw (tick-runs xs (is-sound kept), eq-eqb _ _ (test .if2 .taken))
+    (ap (λ (a : Answer). after a xs) (c .refused2 .ensures))
 
 sends-again-requires : tie.Need-sends-again-requires
 sends-again-requires c κs =

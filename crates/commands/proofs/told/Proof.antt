@@ -33,7 +33,8 @@ returns c =
     let call = c .before .before in
     let a = call .before .before .args in
     ap (λ (x : Answer). after x (row (a .q))) (c .refused .ensures)
-    ∙ sym (told-unsound (row (a .q)) (sym (call .sound .ensures) ∙ not-true _ (c .before .if1 .taken)) (a .message .now))
+    ∙ sym
+    (told-unsound (row (a .q)) (sym (call .sound .ensures) ∙ not-true _ (c .before .if1 .taken)) (a .message .now))
 
 check-requires : tie.Need-check-requires
 check-requires c κs = search needs
