@@ -10,7 +10,7 @@ use lib.ListN.{length, getD, set, take, drop, replicate}
 use lib.Seq.{take-at, length-take-le}
 use borrow.Author.Tests.{eqb-true, leb-true, eq-eqb, le-leb}
 use Rattle.standard.specs.Words.{byte, bit}
-use Rattle.standard.specs.Messages.{known, lengthIn, numberOf, lengthFor, among, valuesOk, checkOf}
+use Rattle.standard.specs.Messages.{known, lengthIn, numberOf, flagOf, lengthFor, among, valuesOk, checkOf}
 use Rattle.standard.proofs.Messages.{passed, passed-number, both-true}
 use Rattle.commands.specs.declared.Slot.{Slot}
 use Rattle.commands.specs.Commands.{
@@ -49,6 +49,12 @@ flagged-twice [] = refl
 flagged-twice (t ∷ m) =
     let e : 128 + (128 + t % 128) % 128 ≡ 128 + t % 128 = omega arith in
     ap (λ b. b ∷ m) e
+
+-- the flag is set
+pub flagged-flag : (m : List ℕ) → 1 ≤ length m → flagOf (byte 1 (flagged m)) ≡ true
+unfolding flagged
+flagged-flag [] h = absurd (omega (arith, h))
+flagged-flag (t ∷ m) h = eq-eqb (bit 7 (128 + t % 128)) 1 (omega arith)
 
 -- the number stays
 pub flagged-number : (m : List ℕ) → numberOf (byte 1 (flagged m)) ≡ numberOf (byte 1 m)

@@ -36,6 +36,10 @@ blanks : (n : ℕ) → Blank (replicate n blank)
 blanks zero = tt
 blanks (suc n) = (refl, blanks n)
 
+-- a freed slot has 16 bytes, all zero
+pub all-zero : blank .length ∷ blank .sent ∷ blank .ticks ∷ blank .message ≡ replicate 16 0
+all-zero = refl
+
 -- FREE SLOTS ARE ALL ZERO, from empty slots on
 pub freed : (cs : List Call) → Blank (those unused (slotsAfter cs empty))
 unfolding those

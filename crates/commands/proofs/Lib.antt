@@ -1,3 +1,4 @@
+pub mod Fourteen
 pub mod Flag
 pub mod Form
 pub mod Held
