@@ -1,9 +1,10 @@
-/* libnx584.a: reader, writer, replies, table and overview of the NX-584 protocol, in both framings.
+/* libnx584.a: reader, writer, replies, table and overview of the NX-584 protocol, in both framings, and
+ * the line of commands that are sent until the gateway acknowledges them.
  *
  * From a release, x86-64 or 64-bit Arm Linux:
  *
- *     tar xzf pyttelow-0.1-aarch64-linux-gnu.tar.gz
- *     cd pyttelow-0.1-aarch64-linux-gnu
+ *     tar xzf pyttelow-0.2-aarch64-linux-gnu.tar.gz
+ *     cd pyttelow-0.2-aarch64-linux-gnu
  *     cc -std=c11 -O2 -Iinclude examples/host.c lib/libnx584.a -o unit
  *     ./unit --help
  *
@@ -26,9 +27,9 @@
  * The library has no global and takes no memory from a heap: a call works on its arguments and on at
  * most NX584_STACK_MOST bytes of stack, calls no system and never waits. Threads may call it at the
  * same time; two calls that are lent the same table are kept apart by the caller where one of them
- * writes it (nx584_apply, nx584_hear). It needs memcpy, memmove and memset of the C library and nothing
- * else. Targets: x86-64 (System V calls) and, as a release, 64-bit Arm, both little-endian, with a
- * size_t of 8 bytes and IEEE doubles.
+ * writes it (nx584_apply, nx584_hear), and two calls that are lent the same slots always. It needs
+ * memcpy, memmove and memset of the C library and nothing else. Targets: x86-64 (System V calls) and,
+ * as a release, 64-bit Arm, both little-endian, with a size_t of 8 bytes and IEEE doubles.
  *
  * No proof ties these lines to the library's source: the two are changed together, and the tests try
  * them. */
@@ -46,7 +47,7 @@ extern "C" {
  * the numbers below. It grows when one of those changes, and only then. A program asks nx584_version()
  * first and stops where it is another number: it was compiled with one version of this file and linked
  * with an archive of another, and no answer would mean what it seems to. */
-#define NX584_VERSION 1
+#define NX584_VERSION 2
 
 /* ---- sizes */
 
@@ -56,8 +57,10 @@ extern "C" {
 #define NX584_TABLE_BYTES 2132     /* a table; all zero is a fresh one */
 #define NX584_ZONES 256
 #define NX584_PARTITIONS 8
-#define NX584_GROUPS 16       /* of 16 zones each */
-#define NX584_STACK_MOST 2048 /* of stack in a call, with its operands and its answer; measured */
+#define NX584_GROUPS 16          /* of 16 zones each */
+#define NX584_SLOTS 8            /* of a line of commands; all zero is an empty line */
+#define NX584_LONGEST_COMMAND 13 /* the longest command, its type byte included */
+#define NX584_STACK_MOST 2048    /* of stack in a call, with its operands and its answer; measured */
 
 /* ---- numbers */
 
@@ -84,10 +87,21 @@ extern "C" {
 #define NX584_NONE 255       /* no verdict yet */
 
 /* Refusals, beside 4, 6, 7 and 8. */
-#define NX584_NO_ROOM 9    /* the frame does not fit from its place to the end of the buffer */
-#define NX584_SUM_FF 10    /* a sum byte would be FFh; no message is known to cause it */
-#define NX584_NO_TABLE 11  /* the buffer is not NX584_TABLE_BYTES long */
-#define NX584_NOT_SOUND 12 /* the reader is none that the library made */
+#define NX584_NO_ROOM 9          /* the frame does not fit from its place to the end of the buffer */
+#define NX584_SUM_FF 10          /* a sum byte would be FFh; no message is known to cause it */
+#define NX584_NO_TABLE 11        /* the buffer is not NX584_TABLE_BYTES long */
+#define NX584_NOT_SOUND 12       /* the reader is none that the library made */
+#define NX584_NO_COMMAND 13      /* a good message, and none of the 14 commands */
+#define NX584_ALL_WAITING 14     /* a command waits in each of the eight slots */
+#define NX584_SLOTS_NOT_SOUND 22 /* not NX584_SLOTS slots, or none that the library made */
+
+/* How the front command ended in a call: not at all, given up, or by the message of this number. */
+#define NX584_NOT_ENDED 0
+#define NX584_GIVEN_UP 1              /* sent four times, and not ended by then */
+#define NX584_ENDED_ACKNOWLEDGED 0x1D /* Positive Acknowledge */
+#define NX584_ENDED_FAILED 0x1C       /* Command / Request Failed */
+#define NX584_ENDED_REJECTED 0x1F     /* Message Rejected */
+#define NX584_ENDED_REPLIED 0x12      /* User Information Reply, to a 34h or 35h */
 
 /* Replies: messages of one byte. */
 #define NX584_NO_REPLY 0
@@ -168,6 +182,21 @@ typedef struct {
     uint8_t number, mark, bytes[11];
 } nx584_system_record;
 
+/* A command that waits, or a free slot: one of length 0. message: the command, of so many bytes. sent:
+ * how often it went out; ticks: how many have passed since. A host lends eight of them that are all
+ * zero at first, and has no need to look into them: those with a length are the commands that wait. */
+typedef struct {
+    uint8_t length, sent, ticks;
+    uint8_t message[NX584_LONGEST_COMMAND];
+} nx584_slot;
+
+/* number: 0 or the refusal. ended: how the front ended in this call, NX584_NOT_ENDED where it did not.
+ * length and message: what goes out now, 0 and all zero where nothing does; zero beyond length. */
+typedef struct {
+    uint8_t number, ended, length;
+    uint8_t message[NX584_LONGEST_COMMAND];
+} nx584_sending;
+
 /* What the archive was compiled for; a machine with other sizes stops here. */
 typedef char nx584_has_size_t[sizeof(size_t) == 8 ? 1 : -1];
 typedef char nx584_has_reader[sizeof(nx584_reader) == 28 ? 1 : -1];
@@ -179,6 +208,8 @@ typedef char nx584_has_overview[sizeof(nx584_overview) == 280 ? 1 : -1];
 typedef char nx584_has_zone_record[sizeof(nx584_zone_record) == 9 ? 1 : -1];
 typedef char nx584_has_partition_record[sizeof(nx584_partition_record) == 10 ? 1 : -1];
 typedef char nx584_has_system_record[sizeof(nx584_system_record) == 13 ? 1 : -1];
+typedef char nx584_has_slot[sizeof(nx584_slot) == 16 ? 1 : -1];
+typedef char nx584_has_sending[sizeof(nx584_sending) == 16 ? 1 : -1];
 
 /* ---- functions */
 
@@ -219,6 +250,39 @@ nx584_system_record nx584_system(const uint8_t *table, size_t table_len);
  * and the table stay as they were. */
 nx584_hearing nx584_hear(nx584_reader reader, uint8_t *table, size_t table_len, const uint8_t *bytes,
                          size_t bytes_len);
+
+/* ---- the line of commands
+ *
+ * Commands wait in eight slots that the host lends to each of these three calls: the oldest is in the
+ * first slot, the front, and it alone is outstanding. It goes out when it becomes the front, again at
+ * each sixth tick after it went out, and at once when a good 1Eh was told. It ends by a good 1Dh, 1Ch
+ * or 1Fh, a 34h or 35h also by a good 12h; after four sendings the next 1Eh or sixth tick gives it up.
+ * So a command with k ahead of it has ended after at most 24 (k + 1) ticks. Where it ends, the others
+ * move up, the freed slot is all zero, and the next one goes out by the same call.
+ *
+ * Whatever a call answers with a length is to be written as a frame in the line's framing, by
+ * nx584_write(a.message, a.length, ..), and sent at once; its flag is set. A call answers at most one
+ * message and one end.
+ *
+ * slots_len counts slots and not bytes. Slots are sound when there are eight; the used ones, whose
+ * length is not 0, stand first, and each holds a good one of the 14; the first, where it is used, was
+ * sent 1 to 4 times with 0 to 5 ticks; and every other slot, a free first one too, has sent 0 and
+ * ticks 0. All zero is sound, and every call leaves sound slots sound, so a host that lends them to
+ * these calls alone never meets 22. A refused call leaves every slot as it was and answers ended 0 and
+ * length 0. One line of commands belongs to one gateway: two threads lend it in turn and not at once. */
+
+/* Takes a command to the end of the line, with its flag set. The 14 numbers: 29h, 2Bh, 2Ch, 31h, 34h to
+ * 37h, 3Ah, 3Bh and 3Ch to 3Fh. Refusals in this order: 22, 4, 6, 7, 8, 13 (none of the 14), 14 (all
+ * eight wait). Where nothing waited it goes out now. */
+nx584_sending nx584_take(nx584_slot *slots, size_t slots_len, const uint8_t *message, size_t message_len);
+
+/* To be called each half second, by the clock and not by what is heard; with nothing waiting it changes
+ * nothing. Refusal: 22. */
+nx584_sending nx584_tick(nx584_slot *slots, size_t slots_len);
+
+/* To be called for every good message that was heard, nx584_hear's verdict 0, its flag set or not; those
+ * that neither end nor repeat the front change nothing. Refusals in this order: 22, 4, 6, 7, 8. */
+nx584_sending nx584_told(nx584_slot *slots, size_t slots_len, const uint8_t *message, size_t message_len);
 
 #ifdef __cplusplus
 }

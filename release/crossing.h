@@ -20,5 +20,8 @@ void nx584_cross_zone(nx584_zone_record *answer, const uint8_t *table, uint64_t 
 void nx584_cross_partition(nx584_partition_record *answer, const uint8_t *table, uint64_t table_len, uint64_t partition);
 void nx584_cross_system(nx584_system_record *answer, const uint8_t *table, uint64_t table_len);
 void nx584_cross_hear(nx584_hearing *answer, const nx584_reader *reader, uint8_t *table, uint64_t table_len, const uint8_t *bytes, uint64_t bytes_len);
+void nx584_cross_take(nx584_sending *answer, nx584_slot *slots, uint64_t slots_len, const uint8_t *message, uint64_t message_len);
+void nx584_cross_tick(nx584_sending *answer, nx584_slot *slots, uint64_t slots_len);
+void nx584_cross_told(nx584_sending *answer, nx584_slot *slots, uint64_t slots_len, const uint8_t *message, uint64_t message_len);
 
 #endif

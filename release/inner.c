@@ -61,3 +61,18 @@ void nx584_cross_hear(nx584_hearing *answer, const nx584_reader *reader, uint8_t
 {
     *answer = nx584_hear(*reader, table, table_len, bytes, bytes_len);
 }
+
+void nx584_cross_take(nx584_sending *answer, nx584_slot *slots, uint64_t slots_len, const uint8_t *message, uint64_t message_len)
+{
+    *answer = nx584_take(slots, slots_len, message, message_len);
+}
+
+void nx584_cross_tick(nx584_sending *answer, nx584_slot *slots, uint64_t slots_len)
+{
+    *answer = nx584_tick(slots, slots_len);
+}
+
+void nx584_cross_told(nx584_sending *answer, nx584_slot *slots, uint64_t slots_len, const uint8_t *message, uint64_t message_len)
+{
+    *answer = nx584_told(slots, slots_len, message, message_len);
+}

@@ -78,3 +78,24 @@ nx584_hearing nx584_hear(nx584_reader reader, uint8_t *table, size_t table_len, 
     nx584_cross_hear(&answer, &reader, table, table_len, bytes, bytes_len);
     return answer;
 }
+
+nx584_sending nx584_take(nx584_slot *slots, size_t slots_len, const uint8_t *message, size_t message_len)
+{
+    nx584_sending answer;
+    nx584_cross_take(&answer, slots, slots_len, message, message_len);
+    return answer;
+}
+
+nx584_sending nx584_tick(nx584_slot *slots, size_t slots_len)
+{
+    nx584_sending answer;
+    nx584_cross_tick(&answer, slots, slots_len);
+    return answer;
+}
+
+nx584_sending nx584_told(nx584_slot *slots, size_t slots_len, const uint8_t *message, size_t message_len)
+{
+    nx584_sending answer;
+    nx584_cross_told(&answer, slots, slots_len, message, message_len);
+    return answer;
+}

@@ -4,7 +4,8 @@
  *
  * A call is one byte, the function below with the two flags, and then the operands in the order of the
  * header. Numbers are little-endian: a size_t has 8 bytes, a reader 26, and a buffer is its length in 4
- * bytes and then its bytes. An answer is the function's result, field by field in the header's order.
+ * bytes and then its bytes; slots are a buffer of 16 bytes for each. An answer is the function's result,
+ * field by field in the header's order.
  * After a buffer that is lent for writing, the answer has its bytes, and before them one byte: 1 if no
  * byte beside the buffer was touched.
  *
@@ -22,14 +23,19 @@
  *   zone   [table] zone             record
  *   partition [table] partition     record
  *   system [table]                  record
+ *   lend   slots                    nothing                keeps the slots
+ *   take   [slots] message          sending, beside, slots
+ *   tick   [slots]                  sending, beside, slots
+ *   told   [slots] message          sending, beside, slots
  *
- * With the flag KEPT a call has no operand in brackets: it takes the kept reader and table, and keeps
- * the next reader and the table as they come back. With the flag NULLS an empty buffer is passed as
+ * With the flag KEPT a call has no operand in brackets: it takes the kept reader, table or slots, and
+ * keeps the next reader, the table and the slots as they come back. With the flag NULLS an empty buffer is passed as
  * NULL. The end of the input, between two calls, ends the program with status 0; what is no call ends
  * it with another. */
 #include "nx584.h"
 
 enum { FRESH = 1, STEP, READ, WRITE, REPLY, APPLY, VIEW, HEAR, KEEP, SHOW, VERSION, ZONE, PARTITION, SYSTEM };
+enum { LEND = SYSTEM + 1, TAKE, TICK, TOLD };
 enum { FUNCTION = 0x1F };
 enum { NULLS = 0x40, KEPT = 0x80 };
 enum { LONGEST_BUFFER = 1 << 20, BESIDE = 16, MARK = 0xA5 };
@@ -152,7 +158,7 @@ typedef struct {
     size_t begin, length;
 } buffer;
 
-static buffer bytes, message, lent, made_table, kept_table;
+static buffer bytes, message, lent, made_table, kept_table, made_slots, kept_slots;
 static nx584_reader kept_reader;
 static unsigned flags, turn;
 
@@ -224,6 +230,31 @@ static void give_table(const buffer *table)
     give_beside(table);
     if (!(flags & KEPT))
         give_buffer(table);
+}
+
+static void take_slots(buffer *to)
+{
+    take_buffer(to);
+    if (to->length % sizeof(nx584_slot) != 0)
+        leave(2);
+}
+
+static buffer *slots_lent(void)
+{
+    if (flags & KEPT)
+        return &kept_slots;
+    take_slots(&made_slots);
+    return &made_slots;
+}
+
+static void give_sending(const nx584_sending *a, const buffer *slots)
+{
+    give_number(a->number, 1);
+    give_number(a->ended, 1);
+    give_number(a->length, 1);
+    give(a->message, sizeof a->message);
+    give_beside(slots);
+    give_buffer(slots);
 }
 
 static void give_reading(const nx584_reading *a)
@@ -359,6 +390,40 @@ static void call_system(void)
     give(s.bytes, sizeof s.bytes);
 }
 
+/* A slot has bytes alone, so it may stand anywhere. */
+static nx584_slot *slots_of(buffer *slots)
+{
+    return (nx584_slot *)pointer(slots);
+}
+
+static size_t count_of(const buffer *slots)
+{
+    return slots->length / sizeof(nx584_slot);
+}
+
+static void call_take(void)
+{
+    buffer *slots = slots_lent();
+    take_buffer(&message);
+    nx584_sending a = nx584_take(slots_of(slots), count_of(slots), pointer(&message), message.length);
+    give_sending(&a, slots);
+}
+
+static void call_tick(void)
+{
+    buffer *slots = slots_lent();
+    nx584_sending a = nx584_tick(slots_of(slots), count_of(slots));
+    give_sending(&a, slots);
+}
+
+static void call_told(void)
+{
+    buffer *slots = slots_lent();
+    take_buffer(&message);
+    nx584_sending a = nx584_told(slots_of(slots), count_of(slots), pointer(&message), message.length);
+    give_sending(&a, slots);
+}
+
 int main(void)
 {
     while (in_at < in_end || refill()) {
@@ -378,6 +443,10 @@ int main(void)
         case ZONE: call_zone(); break;
         case PARTITION: call_partition(); break;
         case SYSTEM: call_system(); break;
+        case LEND: take_slots(&kept_slots); break;
+        case TAKE: call_take(); break;
+        case TICK: call_tick(); break;
+        case TOLD: call_told(); break;
         default: leave(2);
         }
     }

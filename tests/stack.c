@@ -12,6 +12,7 @@ enum { PAINTED = 1 << 14, PAINT = 0xA5, TURNS = 500 };
 static uint8_t table[NX584_TABLE_BYTES], bytes[64], message[NX584_LONGEST], out[NX584_FRAME_MOST];
 static size_t count;
 static nx584_reader reader;
+static nx584_slot slots[NX584_SLOTS];
 static uint8_t stack[PAINTED];
 static void (*called)(void);
 static volatile uint64_t sink;
@@ -39,6 +40,9 @@ static void call_zone(void) { sink = nx584_zone(table, sizeof table, bytes[0]).m
 static void call_partition(void) { sink = nx584_partition(table, sizeof table, bytes[0]).mark; }
 static void call_system(void) { sink = nx584_system(table, sizeof table).mark; }
 static void call_hear(void) { sink = nx584_hear(reader, table, sizeof table, bytes, count).used; }
+static void call_take(void) { sink = nx584_take(slots, NX584_SLOTS, message, count % 19).length; }
+static void call_tick(void) { sink = nx584_tick(slots, NX584_SLOTS).length; }
+static void call_told(void) { sink = nx584_told(slots, NX584_SLOTS, message, count % 19).length; }
 
 static const struct {
     const char *name;
@@ -46,14 +50,23 @@ static const struct {
 } calls[] = {{"nothing", call_nothing}, {"nx584_version", call_version}, {"nx584_fresh", call_fresh}, {"nx584_step", call_step},
              {"nx584_read", call_read}, {"nx584_write", call_write}, {"nx584_reply", call_reply}, {"nx584_apply", call_apply},
              {"nx584_view", call_view}, {"nx584_zone", call_zone}, {"nx584_partition", call_partition}, {"nx584_system", call_system},
-             {"nx584_hear", call_hear}};
+             {"nx584_hear", call_hear}, {"nx584_take", call_take}, {"nx584_tick", call_tick}, {"nx584_told", call_told}};
 
-/* ---- inputs: half of them good messages' frames, read by a fresh reader */
+/* ---- inputs: half of them good messages' frames, read by a fresh reader; slots with any number of commands that wait */
+
+static void make_slots(void)
+{
+    static const uint8_t bypass[] = {0x3F, 0};
+    if (chance() % 16 == 0)
+        memset(slots, 0, sizeof slots);
+    for (int k = chance() % 3; k > 0; k--)
+        nx584_take(slots, NX584_SLOTS, bypass, sizeof bypass);
+}
 
 static void make_input(void)
 {
-    static const uint8_t numbers[] = {4, 5, 6, 7, 8, 0x1D, 0x03, 0x3B, 0x29}, lengths[] = {8, 10, 9, 9, 12, 1, 18, 7, 4};
-    int which = chance() % 9;
+    static const uint8_t numbers[] = {4, 5, 6, 7, 8, 0x1D, 0x1E, 0x03, 0x3B, 0x29, 0x3F}, lengths[] = {8, 10, 9, 9, 12, 1, 1, 18, 7, 4, 2};
+    size_t which = chance() % sizeof numbers;
     for (size_t k = 0; k < sizeof message; k++)
         message[k] = chance() % 16 ? chance() : 1;
     for (size_t k = 0; k < sizeof bytes; k++)
@@ -62,6 +75,7 @@ static void make_input(void)
     message[1] &= 7;
     count = chance() % 2 ? lengths[which] : chance() % sizeof bytes;
     reader = nx584_fresh(bytes[0] & 1);
+    make_slots();
     if (chance() % 2) {
         nx584_written w = nx584_write(message, lengths[which], bytes[0] & 1, out, sizeof out, 0);
         memcpy(bytes, out, w.length);
