@@ -1,7 +1,6 @@
 /* Times the loops of loops.c over made inputs, and prints a line for each: what, nanoseconds for one
  * unit, and the number made from the answers. bench/run compares the lines of several libraries. */
 #include "loops.h"
-#include "nx584.h"
 
 #include <stdio.h>
 #include <stdlib.h>
@@ -9,6 +8,7 @@
 #include <time.h>
 
 enum { RUNS = 9, CAPTURE = 1 << 16, LONGEST_CAPTURE = 1 << 24, MESSAGES = 4096 };
+enum { ANY = -1, COMMANDS = -2 }; /* kinds of messages, beside the single ones */
 static const double LEAST_SECONDS = 0.01;
 
 /* ---- made inputs, the same for every library */
@@ -37,13 +37,28 @@ static size_t make_message(uint8_t *m, unsigned kind)
     return length;
 }
 
-/* So many messages, of one kind or, below 0, of any. */
+/* A good one of the 14 commands, of any length that they have but two. */
+static size_t make_command(uint8_t *m)
+{
+    static const uint8_t numbers[] = {0x31, 0x34, 0x36, 0x3A, 0x35, 0x37, 0x2C, 0x3F};
+    static const uint8_t lengths[] = {13, 8, 7, 6, 5, 4, 3, 2};
+    unsigned which = any_byte() % 8;
+    for (size_t k = 0; k < lengths[which]; k++)
+        m[k] = any_byte();
+    m[0] = numbers[which] | (any_byte() & 0x80);
+    if (which == 0)
+        m[2] = 0x20;
+    return lengths[which];
+}
+
+/* So many messages, of one kind, of any, or commands. */
 static messages make_messages(int kind, size_t count)
 {
     static uint8_t bytes[19 * MESSAGES];
     uint8_t *end = bytes;
     for (size_t k = 0; k < count; k++) {
-        size_t length = make_message(end + 1, kind < 0 ? any_byte() % 8 : (unsigned)kind);
+        size_t length = kind == COMMANDS ? make_command(end + 1)
+                                         : make_message(end + 1, kind == ANY ? any_byte() % 8 : (unsigned)kind);
         *end = (uint8_t)length;
         end += 1 + length;
     }
@@ -68,13 +83,14 @@ static void make_frames(uint8_t framing, uint8_t *bytes, size_t length, size_t d
 /* ---- the measurements */
 
 static uint8_t *capture, table[NX584_TABLE_BYTES];
+static nx584_slot slots[NX584_SLOTS];
 static messages made;
 
 static void binary_frames(size_t units) { make_frames(0, capture, units, 0); }
 static void ascii_frames(size_t units) { make_frames(1, capture, units, 0); }
 static void damaged_frames(size_t units) { make_frames(0, capture, units, 100); }
 static void starts(size_t units) { memset(capture, 0x7E, units); }
-static void mixed(size_t units) { made = make_messages(-1, units); }
+static void mixed(size_t units) { made = make_messages(ANY, units); }
 static void zone_status(size_t units) { made = make_messages(0, units); }
 static void zones_snapshot(size_t units) { made = make_messages(1, units); }
 
@@ -83,6 +99,28 @@ static void heard_zones(size_t units)
 {
     zone_status(units);
     loop_apply(table, &made);
+}
+
+/* Eight commands wait, and more are made. */
+static void eight_waiting(size_t units)
+{
+    made = make_messages(COMMANDS, units);
+    const uint8_t *m = made.bytes;
+    memset(slots, 0, sizeof slots);
+    for (int k = 0; k < NX584_SLOTS; k++, m += 1 + *m)
+        nx584_take(slots, NX584_SLOTS, m + 1, *m);
+}
+
+static void acknowledges(size_t units)
+{
+    eight_waiting(units);
+    made = make_messages(7, units);
+}
+
+static void other_messages(size_t units)
+{
+    eight_waiting(units);
+    zone_status(units);
 }
 
 static void noise(size_t units)
@@ -106,6 +144,9 @@ static uint64_t write_ascii(size_t units) { return (void)units, loop_write(1, &m
 static uint64_t apply(size_t units) { return (void)units, loop_apply(table, &made); }
 static uint64_t view(size_t units) { return loop_view(table, units); }
 static uint64_t hear(size_t units) { return loop_hear(0, table, capture, units); }
+static uint64_t take(size_t units) { return (void)units, loop_take(slots, &made); }
+static uint64_t tick(size_t units) { return loop_tick(slots, units); }
+static uint64_t told(size_t units) { return (void)units, loop_told(slots, &made); }
 
 static const struct line {
     const char *what, *unit;
@@ -132,6 +173,10 @@ static const struct line {
     {"apply 05h", "message", zones_snapshot, apply, MESSAGES},
     {"overview", "table", heard_zones, view, 1024},
     {"hear a mixed capture", "byte", damaged_frames, hear, CAPTURE},
+    {"take the eighth command", "call", eight_waiting, take, MESSAGES},
+    {"tick, eight waiting", "call", eight_waiting, tick, MESSAGES},
+    {"told 1Dh, eight waiting", "call", acknowledges, told, MESSAGES},
+    {"told 04h, eight waiting", "call", other_messages, told, MESSAGES},
     {"read binary, 1 KiB", "byte", binary_frames, read_binary, 1 << 10},
     {"read binary, 64 KiB", "byte", binary_frames, read_binary, 1 << 16},
     {"read binary, 16 MiB", "byte", binary_frames, read_binary, LONGEST_CAPTURE},

@@ -329,3 +329,143 @@ nx584_hearing nx584_hear(nx584_reader reader, uint8_t *table, size_t table_len, 
         store(table, a.message);
     return h;
 }
+
+/* ---- the line of commands (document 02, No. 1) */
+
+static int is_command(uint8_t type)
+{
+    switch (type & 0x3F) {
+    case 0x29: case 0x2B: case 0x2C: case 0x31: case 0x3A: case 0x3B: return 1;
+    case 0x34: case 0x35: case 0x36: case 0x37: return 1;
+    case 0x3C: case 0x3D: case 0x3E: case 0x3F: return 1;
+    default: return 0;
+    }
+}
+
+static int holds_command(const nx584_slot *s)
+{
+    return s->length <= NX584_LONGEST_COMMAND && verdict_of(s->message, s->length) == 0 && is_command(s->message[0]);
+}
+
+static int slots_are_sound(const nx584_slot *slots, size_t slots_len)
+{
+    if (slots_len != NX584_SLOTS)
+        return 0;
+    for (int k = 0; k < NX584_SLOTS; k++) {
+        const nx584_slot *s = &slots[k];
+        int is_used = s->length != 0;
+        if (is_used && ((k > 0 && slots[k - 1].length == 0) || !holds_command(s)))
+            return 0;
+        if (k == 0 && is_used) {
+            if (s->sent < 1 || s->sent > 4 || s->ticks > 5)
+                return 0;
+        } else if (s->sent != 0 || s->ticks != 0) {
+            return 0;
+        }
+    }
+    return 1;
+}
+
+static int waiting(const nx584_slot *slots)
+{
+    int count = 0;
+    while (count < NX584_SLOTS && slots[count].length != 0)
+        count++;
+    return count;
+}
+
+static void send_front(nx584_sending *a, nx584_slot *front)
+{
+    front->sent++;
+    front->ticks = 0;
+    a->length = front->length;
+    memcpy(a->message, front->message, front->length);
+    a->message[0] |= 0x80;
+}
+
+static void end_front(nx584_sending *a, nx584_slot *slots, uint8_t ended)
+{
+    int last = waiting(slots) - 1;
+    memmove(&slots[0], &slots[1], (size_t)last * sizeof *slots);
+    memset(&slots[last], 0, sizeof *slots);
+    a->ended = ended;
+    if (slots[0].length != 0)
+        send_front(a, &slots[0]);
+}
+
+static void repeat_front(nx584_sending *a, nx584_slot *slots)
+{
+    if (slots[0].sent < 4)
+        send_front(a, &slots[0]);
+    else
+        end_front(a, slots, NX584_GIVEN_UP);
+}
+
+static uint8_t refusal_of(const uint8_t *message, size_t message_len)
+{
+    return message_len < 1 || message_len > NX584_LONGEST ? 4 : verdict_of(message, message_len);
+}
+
+nx584_sending nx584_take(nx584_slot *slots, size_t slots_len, const uint8_t *message, size_t message_len)
+{
+    nx584_sending a = {0};
+    int free_slot;
+    if (!slots_are_sound(slots, slots_len)) {
+        a.number = 22;
+        return a;
+    }
+    a.number = refusal_of(message, message_len);
+    if (a.number != 0)
+        return a;
+    free_slot = waiting(slots);
+    if (!is_command(message[0]))
+        a.number = 13;
+    else if (free_slot == NX584_SLOTS)
+        a.number = 14;
+    if (a.number != 0)
+        return a;
+    memset(&slots[free_slot], 0, sizeof *slots);
+    slots[free_slot].length = (uint8_t)message_len;
+    memcpy(slots[free_slot].message, message, message_len);
+    slots[free_slot].message[0] |= 0x80;
+    if (free_slot == 0)
+        send_front(&a, &slots[0]);
+    return a;
+}
+
+nx584_sending nx584_tick(nx584_slot *slots, size_t slots_len)
+{
+    nx584_sending a = {0};
+    if (!slots_are_sound(slots, slots_len))
+        a.number = 22;
+    else if (slots[0].length != 0 && ++slots[0].ticks == 6)
+        repeat_front(&a, slots);
+    return a;
+}
+
+/* Whether a good message of this number ends the front. */
+static int ends(uint8_t number, uint8_t front)
+{
+    if (number == 0x12)
+        return front == 0x34 || front == 0x35;
+    return number == 0x1D || number == 0x1C || number == 0x1F;
+}
+
+nx584_sending nx584_told(nx584_slot *slots, size_t slots_len, const uint8_t *message, size_t message_len)
+{
+    nx584_sending a = {0};
+    uint8_t number;
+    if (!slots_are_sound(slots, slots_len)) {
+        a.number = 22;
+        return a;
+    }
+    a.number = refusal_of(message, message_len);
+    if (a.number != 0 || slots[0].length == 0)
+        return a;
+    number = message[0] & 0x3F;
+    if (ends(number, slots[0].message[0] & 0x3F))
+        end_front(&a, slots, number);
+    else if (number == 0x1E)
+        repeat_front(&a, slots);
+    return a;
+}

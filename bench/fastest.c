@@ -744,3 +744,148 @@ nx584_hearing nx584_hear(nx584_reader reader, uint8_t *table, size_t table_len, 
     }
     return h;
 }
+
+/* ---- the line of commands (document 02, No. 1): a slot is a vector of sixteen bytes */
+
+_Static_assert(sizeof(nx584_slot) == 16 && sizeof(nx584_sending) == 16, "a slot's words");
+
+/* The length of each of the 14, 0 for all others: so a number is looked up once. */
+static const uint8_t commands[128] = {
+    [0x29] = 4, [0x2B] = 12, [0x2C] = 3, [0x31] = 13, [0x34] = 8, [0x35] = 5, [0x36] = 7,
+    [0x37] = 4, [0x3A] = 6,  [0x3B] = 7, [0x3C] = 6,  [0x3D] = 4, [0x3E] = 3, [0x3F] = 2,
+};
+
+/* Those of them with a checked value, a bit for each number. */
+#define BIT(number) (1ull << (number))
+static const uint64_t with_values =
+    BIT(0x29) | BIT(0x2B) | BIT(0x31) | BIT(0x3B) | BIT(0x3C) | BIT(0x3D) | BIT(0x3E);
+
+/* How many wait, or -1 where the slots are not sound. */
+ALWAYS int waiting(const nx584_slot *slots, size_t slots_len)
+{
+    int count = 0;
+    uint64_t behind = 0;
+    if (slots_len != NX584_SLOTS)
+        return -1;
+    for (; count < NX584_SLOTS && slots[count].length != 0; count++) {
+        const uint8_t *m = slots[count].message;
+        if (commands[m[0] & 0x7F] != slots[count].length)
+            return -1;
+        if ((with_values & BIT(m[0] & 0x3F)) && !values_are_good(m))
+            return -1;
+    }
+    for (int k = 1; k < NX584_SLOTS; k++) /* a length counts only behind the used ones */
+        behind |= load((const uint8_t *)&slots[k]) & (k < count ? 0xFFFF00 : 0xFFFFFF);
+    if (count == 0)
+        behind |= load((const uint8_t *)slots) & 0xFFFF00;
+    else if (slots[0].sent - 1u >= 4 || slots[0].ticks > 5)
+        return -1;
+    return behind ? -1 : count;
+}
+
+/* The message of n bytes that stands behind three others, as in a slot and in an answer: its flag set,
+ * zero beyond it. */
+ALWAYS two flagged(two slot, size_t n)
+{
+    bytes16 v = (bytes16)slot & load_vector(first(n + 3));
+    v[3] |= 0x80;
+    return (two)v;
+}
+
+ALWAYS two load_slot(const nx584_slot *s)
+{
+    two v;
+    memcpy(&v, s, 16);
+    return v;
+}
+
+/* A slot and an answer have their message at the same place. */
+ALWAYS nx584_sending sending(two slot, unsigned ended, unsigned length)
+{
+    nx584_sending a;
+    slot = flagged(slot, length);
+    slot[0] = (slot[0] & ~(uint64_t)0xFFFFFF) | ended << 8 | length << 16;
+    memcpy(&a, &slot, 16);
+    return a;
+}
+
+ALWAYS nx584_sending says(unsigned number, unsigned ended)
+{
+    nx584_sending a;
+    two words = {number | ended << 8, 0};
+    memcpy(&a, &words, 16);
+    return a;
+}
+
+/* The slot goes to the front, sent once more, its ticks 0. */
+ALWAYS nx584_sending send_front(nx584_slot *front, two slot, unsigned ended)
+{
+    unsigned length = slot[0] & 0xFF;
+    slot[0] = (slot[0] & ~(uint64_t)0xFF0000) + 0x100;
+    memcpy(front, &slot, 16);
+    return sending(slot, ended, length);
+}
+
+static nx584_sending end_front(nx584_slot *slots, int count, unsigned ended)
+{
+    two none = {0, 0}, next = load_slot(&slots[1]);
+    for (int k = 2; k < count; k++)
+        memcpy(&slots[k - 1], &slots[k], 16);
+    memcpy(&slots[count - 1], &none, 16);
+    return count > 1 ? send_front(slots, next, ended) : says(0, ended);
+}
+
+ALWAYS nx584_sending repeat_front(nx584_slot *slots, int count)
+{
+    return slots->sent < 4 ? send_front(slots, load_slot(slots), 0) : end_front(slots, count, NX584_GIVEN_UP);
+}
+
+ALWAYS unsigned refusal_of(const uint8_t *message, size_t message_len)
+{
+    return message_len - 1 >= NX584_LONGEST ? 4 : verdict_of(message, message_len);
+}
+
+nx584_sending nx584_take(nx584_slot *slots, size_t slots_len, const uint8_t *message, size_t message_len)
+{
+    int count = waiting(slots, slots_len);
+    if (count < 0)
+        return says(22, 0);
+    unsigned number = refusal_of(message, message_len);
+    if (number == 0 && commands[message[0] & 0x7F] == 0)
+        number = 13;
+    else if (number == 0 && count == NX584_SLOTS)
+        number = 14;
+    if (number != 0)
+        return says(number, 0);
+    words m = load_message(message, message_len);
+    two slot = {message_len | m.w[0] << 24, m.w[0] >> 40 | m.w[1] << 24};
+    slot = flagged(slot, message_len);
+    slot[0] |= (uint64_t)(count == 0) << 8; /* the front is sent at once */
+    memcpy(&slots[count], &slot, 16);
+    return count ? says(0, 0) : sending(slot, 0, (unsigned)message_len);
+}
+
+nx584_sending nx584_tick(nx584_slot *slots, size_t slots_len)
+{
+    int count = waiting(slots, slots_len);
+    if (count <= 0)
+        return says(count ? 22 : 0, 0);
+    if (slots->ticks == 5)
+        return repeat_front(slots, count);
+    slots->ticks++;
+    return says(0, 0);
+}
+
+nx584_sending nx584_told(nx584_slot *slots, size_t slots_len, const uint8_t *message, size_t message_len)
+{
+    int count = waiting(slots, slots_len);
+    unsigned refusal = count < 0 ? 22 : refusal_of(message, message_len);
+    if (refusal != 0 || count == 0)
+        return says(refusal, 0);
+    unsigned number = message[0] & 0x3F;
+    if (number == 0x1E)
+        return repeat_front(slots, count);
+    if (number - 0x1C < 4 || (number == 0x12 && (slots->message[0] & 0x3E) == 0x34))
+        return end_front(slots, count, number);
+    return says(0, 0);
+}

@@ -1,6 +1,5 @@
 /* The loops that the bench measures: the calls of nx584.h as a host makes them. */
 #include "loops.h"
-#include "nx584.h"
 
 static uint64_t mix(uint64_t sum, uint64_t answer)
 {
@@ -85,6 +84,59 @@ uint64_t loop_hear(uint8_t framing, uint8_t *table, const uint8_t *bytes, size_t
         sum = mix(sum, a.used << 16 | (uint64_t)a.verdict << 8 | a.reply);
         bytes += a.used;
         length -= a.used;
+    }
+    return sum;
+}
+
+static uint64_t mix_sending(uint64_t sum, const nx584_sending *a, const nx584_slot *slots)
+{
+    uint64_t numbers = (uint64_t)a->number << 24 | a->ended << 16 | a->length << 8 | a->message[0];
+    return mix(sum, numbers << 16 | slots[0].sent << 8 | slots[0].ticks);
+}
+
+uint64_t loop_take(nx584_slot *slots, const messages *list)
+{
+    static const nx584_slot none;
+    uint64_t sum = 0;
+    const uint8_t *m = list->bytes;
+    for (size_t k = 0; k < list->count; k++, m += 1 + *m) {
+        slots[NX584_SLOTS - 1] = none;
+        nx584_sending a = nx584_take(slots, NX584_SLOTS, m + 1, *m);
+        sum = mix(mix_sending(sum, &a, slots), slots[NX584_SLOTS - 1].message[*m - 1]);
+    }
+    return sum;
+}
+
+/* The one that ended comes in again behind the others. */
+static void put_back(nx584_slot *slots, const nx584_slot *ended)
+{
+    slots[NX584_SLOTS - 1] = *ended;
+    slots[NX584_SLOTS - 1].sent = slots[NX584_SLOTS - 1].ticks = 0;
+}
+
+uint64_t loop_tick(nx584_slot *slots, size_t times)
+{
+    uint64_t sum = 0;
+    for (size_t k = 0; k < times; k++) {
+        nx584_slot front = slots[0];
+        nx584_sending a = nx584_tick(slots, NX584_SLOTS);
+        sum = mix_sending(sum, &a, slots);
+        if (a.ended)
+            put_back(slots, &front);
+    }
+    return sum;
+}
+
+uint64_t loop_told(nx584_slot *slots, const messages *list)
+{
+    uint64_t sum = 0;
+    const uint8_t *m = list->bytes;
+    for (size_t k = 0; k < list->count; k++, m += 1 + *m) {
+        nx584_slot front = slots[0];
+        nx584_sending a = nx584_told(slots, NX584_SLOTS, m + 1, *m);
+        sum = mix_sending(sum, &a, slots);
+        if (a.ended)
+            put_back(slots, &front);
     }
     return sum;
 }

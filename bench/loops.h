@@ -2,8 +2,7 @@
 #ifndef LOOPS_H
 #define LOOPS_H
 
-#include <stddef.h>
-#include <stdint.h>
+#include "nx584.h"
 
 /* Messages one after the other, each after its length byte. */
 typedef struct {
@@ -19,6 +18,12 @@ uint64_t loop_write(uint8_t framing, const messages *list);
 uint64_t loop_apply(uint8_t *table, const messages *list);
 uint64_t loop_view(uint8_t *table, size_t times);
 uint64_t loop_hear(uint8_t framing, uint8_t *table, const uint8_t *bytes, size_t length);
+
+/* Slots with eight commands that wait are handed in, and are put back to them where a call leaves fewer:
+ * a take is of the eighth, a tick and a message meet all eight. */
+uint64_t loop_take(nx584_slot *slots, const messages *list);
+uint64_t loop_tick(nx584_slot *slots, size_t times);
+uint64_t loop_told(nx584_slot *slots, const messages *list);
 size_t reader_bytes(void);
 
 #endif

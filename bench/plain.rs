@@ -1,11 +1,13 @@
-//! The plain Rust that the bench measures against: nx584.h written directly from document 01, with no
-//! proof, as one would write it for speed. The second program checks it as it checks the library.
+//! The plain Rust that the bench measures against: nx584.h written directly from documents 01 and 02, with
+//! no proof, as one would write it for speed. The second program checks it as it checks the library.
 
 use std::slice;
 
-const VERSION: u32 = 1;
+const VERSION: u32 = 2;
 const LONGEST: usize = 18;
 const TABLE_BYTES: usize = 2132;
+const SLOTS: usize = 8;
+const LONGEST_COMMAND: usize = 13;
 const NONE: u8 = 255;
 
 const BINARY_START: u8 = 0x7E;
@@ -104,6 +106,23 @@ pub struct SystemRecord {
     number: u8,
     mark: u8,
     bytes: [u8; 11],
+}
+
+#[repr(C)]
+#[derive(Clone, Copy)]
+pub struct Slot {
+    length: u8,
+    sent: u8,
+    ticks: u8,
+    message: [u8; LONGEST_COMMAND],
+}
+
+#[repr(C)]
+pub struct Sending {
+    number: u8,
+    ended: u8,
+    length: u8,
+    message: [u8; LONGEST_COMMAND],
 }
 
 // ---- messages
@@ -533,6 +552,141 @@ fn system(table: &[u8]) -> SystemRecord {
     SystemRecord { number, mark, bytes: b }
 }
 
+// ---- the line of commands
+
+const FREE: Slot = Slot { length: 0, sent: 0, ticks: 0, message: [0; LONGEST_COMMAND] };
+const GIVEN_UP: u8 = 1;
+
+fn is_command(type_byte: u8) -> bool {
+    matches!(type_byte & 0x3F, 0x29 | 0x2B | 0x2C | 0x31 | 0x34..=0x37 | 0x3A..=0x3F)
+}
+
+impl Slot {
+    fn is_used(&self) -> bool {
+        self.length != 0
+    }
+
+    fn holds_command(&self) -> bool {
+        match self.message.get(..usize::from(self.length)) {
+            Some(message) => verdict_of(message) == 0 && is_command(message[0]),
+            None => false,
+        }
+    }
+
+    fn is_idle(&self) -> bool {
+        self.sent == 0 && self.ticks == 0
+    }
+}
+
+impl Sending {
+    fn of(number: u8, ended: u8) -> Sending {
+        Sending { number, ended, length: 0, message: [0; LONGEST_COMMAND] }
+    }
+}
+
+/// How many wait; none where the slots are not sound.
+fn waiting(slots: &[Slot; SLOTS]) -> Option<usize> {
+    let count = slots.iter().position(|s| !s.is_used()).unwrap_or(SLOTS);
+    let [front, behind @ ..] = slots;
+    let front_is_sound = match count {
+        0 => front.is_idle(),
+        _ => (1..=4).contains(&front.sent) && front.ticks <= 5,
+    };
+    let sound = front_is_sound
+        && behind.iter().all(Slot::is_idle)
+        && slots[..count].iter().all(Slot::holds_command)
+        && !slots[count..].iter().any(Slot::is_used);
+    sound.then_some(count)
+}
+
+/// The slots and how many of them wait, or 22.
+fn sound(slots: &mut [Slot]) -> Result<(&mut [Slot; SLOTS], usize), Sending> {
+    let slots: &mut [Slot; SLOTS] = slots.try_into().map_err(|_| Sending::of(22, 0))?;
+    let count = waiting(slots).ok_or(Sending::of(22, 0))?;
+    Ok((slots, count))
+}
+
+fn send_front(slots: &mut [Slot; SLOTS], ended: u8) -> Sending {
+    let front = &mut slots[0];
+    let mut sending = Sending { length: front.length, ..Sending::of(0, ended) };
+    let n = usize::from(front.length).min(LONGEST_COMMAND);
+    front.sent += 1;
+    front.ticks = 0;
+    sending.message[..n].copy_from_slice(&front.message[..n]);
+    sending.message[0] |= 0x80;
+    sending
+}
+
+fn end_front(slots: &mut [Slot; SLOTS], count: usize, ended: u8) -> Sending {
+    slots.copy_within(1..count, 0);
+    slots[count - 1] = FREE;
+    if count > 1 {
+        send_front(slots, ended)
+    } else {
+        Sending::of(0, ended)
+    }
+}
+
+fn repeat_front(slots: &mut [Slot; SLOTS], count: usize) -> Sending {
+    if slots[0].sent < 4 {
+        send_front(slots, 0)
+    } else {
+        end_front(slots, count, GIVEN_UP)
+    }
+}
+
+fn take(slots: &mut [Slot], message: &[u8]) -> Sending {
+    let (slots, count) = match sound(slots) {
+        Ok(sound) => sound,
+        Err(refused) => return refused,
+    };
+    let number = match verdict_of(message) {
+        0 if !is_command(message[0]) => 13,
+        0 if count == SLOTS => 14,
+        verdict => verdict,
+    };
+    if number != 0 {
+        return Sending::of(number, 0);
+    }
+    let mut slot = Slot { length: message.len() as u8, ..FREE };
+    slot.message[..message.len()].copy_from_slice(message);
+    slot.message[0] |= 0x80;
+    slots[count] = slot;
+    if count == 0 {
+        send_front(slots, 0)
+    } else {
+        Sending::of(0, 0)
+    }
+}
+
+fn tick(slots: &mut [Slot]) -> Sending {
+    match sound(slots) {
+        Err(refused) => refused,
+        Ok((_, 0)) => Sending::of(0, 0),
+        Ok((slots, count)) if slots[0].ticks == 5 => repeat_front(slots, count),
+        Ok((slots, _)) => {
+            slots[0].ticks += 1;
+            Sending::of(0, 0)
+        }
+    }
+}
+
+fn told(slots: &mut [Slot], message: &[u8]) -> Sending {
+    let (slots, count) = match sound(slots) {
+        Ok(sound) => sound,
+        Err(refused) => return refused,
+    };
+    let verdict = verdict_of(message);
+    if verdict != 0 || count == 0 {
+        return Sending::of(verdict, 0);
+    }
+    match (message[0] & 0x3F, slots[0].message[0] & 0x3F) {
+        (end @ (0x1C | 0x1D | 0x1F), _) | (end @ 0x12, 0x34 | 0x35) => end_front(slots, count, end),
+        (0x1E, _) => repeat_front(slots, count),
+        _ => Sending::of(0, 0),
+    }
+}
+
 // ---- what C calls
 
 /// The bytes that C lends; NULL comes with length 0.
@@ -544,7 +698,7 @@ unsafe fn lent<'a>(bytes: *const u8, length: usize) -> &'a [u8] {
     }
 }
 
-unsafe fn lent_mut<'a>(bytes: *mut u8, length: usize) -> &'a mut [u8] {
+unsafe fn lent_mut<'a, T>(bytes: *mut T, length: usize) -> &'a mut [T] {
     if length == 0 {
         &mut []
     } else {
@@ -647,4 +801,35 @@ pub unsafe extern "C" fn nx584_partition(table: *const u8, length: usize, number
 #[no_mangle]
 pub unsafe extern "C" fn nx584_system(table: *const u8, length: usize) -> SystemRecord {
     system(lent(table, length))
+}
+
+/// # Safety
+/// As nx584.h says: pointers are valid for their lengths, and the buffers do not overlap.
+#[no_mangle]
+pub unsafe extern "C" fn nx584_take(
+    slots: *mut Slot,
+    slots_length: usize,
+    message: *const u8,
+    message_length: usize,
+) -> Sending {
+    take(lent_mut(slots, slots_length), lent(message, message_length))
+}
+
+/// # Safety
+/// As nx584.h says: pointers are valid for their lengths.
+#[no_mangle]
+pub unsafe extern "C" fn nx584_tick(slots: *mut Slot, length: usize) -> Sending {
+    tick(lent_mut(slots, length))
+}
+
+/// # Safety
+/// As nx584.h says: pointers are valid for their lengths, and the buffers do not overlap.
+#[no_mangle]
+pub unsafe extern "C" fn nx584_told(
+    slots: *mut Slot,
+    slots_length: usize,
+    message: *const u8,
+    message_length: usize,
+) -> Sending {
+    told(lent_mut(slots, slots_length), lent(message, message_length))
 }
