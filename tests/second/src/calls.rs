@@ -3,12 +3,23 @@
 use std::fmt;
 use std::io::{self, Read};
 
+use crate::commands::{from_memory, take, tick, to_memory, told, Sending, Slot, LONGEST_COMMAND};
+use crate::commands::{SLOTS, SLOT_BYTES};
 use crate::messages::LONGEST;
+use crate::odd::Wrong;
 use crate::reader::{read, Reader, Reading};
 use crate::table::{self, apply, hear, view, Group, Overview};
 use crate::writer::{reply, write, Written};
 
-/// A call. Where the reader or the table is None, the driver's kept one is meant.
+/// Slots as they stand in memory, and what is wrong with them.
+#[derive(Clone, Debug)]
+pub struct Lent {
+    pub bytes: Vec<u8>,
+    pub wrong: Wrong,
+}
+
+/// A call. Where the reader, the table or the slots are None, the driver's kept ones are meant; Lend keeps
+/// eight slots.
 #[derive(Clone, Debug)]
 pub enum Call {
     Fresh { framing: u8 },
@@ -25,6 +36,10 @@ pub enum Call {
     Zone { table: Option<Vec<u8>>, zone: u8 },
     Partition { table: Option<Vec<u8>>, partition: u8 },
     System { table: Option<Vec<u8>> },
+    Lend { slots: Vec<u8> },
+    Take { slots: Option<Lent>, message: Vec<u8> },
+    Tick { slots: Option<Lent> },
+    Told { slots: Option<Lent>, message: Vec<u8> },
 }
 
 /// The version of nx584.h that is meant here.
@@ -56,6 +71,11 @@ pub enum Answer {
     Version(u32),
     /// The bytes of a record, in the header's order.
     Record(Vec<u8>),
+    /// What is said, and all slots as they stand in memory.
+    Sending {
+        sending: Sending,
+        slots: Vec<u8>,
+    },
     /// A byte beside a lent buffer was touched.
     Beside,
 }
@@ -69,11 +89,22 @@ pub trait Library {
 pub struct Second {
     reader: Reader,
     table: Vec<u8>,
+    slots: Vec<u8>,
 }
 
 impl Second {
     pub fn new() -> Second {
-        Second { reader: Reader::fresh(0), table: Vec::new() }
+        Second { reader: Reader::fresh(0), table: Vec::new(), slots: Vec::new() }
+    }
+
+    fn sending(&mut self, own: &Option<Lent>, call: impl FnOnce(&mut Vec<Slot>) -> Sending) -> Answer {
+        let mut slots = from_memory(own.as_ref().map_or(&self.slots, |lent| &lent.bytes));
+        let sending = call(&mut slots);
+        let slots = to_memory(&slots);
+        if own.is_none() {
+            self.slots = slots.clone();
+        }
+        Answer::Sending { sending, slots }
     }
 
     fn own<'a>(&'a self, table: &'a Option<Vec<u8>>) -> &'a [u8] {
@@ -134,6 +165,13 @@ impl Library for Second {
                 Answer::Record(table::partition_record(self.own(table), *partition))
             }
             Call::System { table } => Answer::Record(table::system_record(self.own(table))),
+            Call::Lend { slots } => {
+                self.slots = slots.clone();
+                Answer::Nothing
+            }
+            Call::Take { slots, message } => self.sending(slots, |slots| take(slots, message)),
+            Call::Tick { slots } => self.sending(slots, tick),
+            Call::Told { slots, message } => self.sending(slots, |slots| told(slots, message)),
         }
     }
 }
@@ -174,6 +212,9 @@ impl Answer {
             (Answer::Table(e), Answer::Table(a)) => e == a,
             (Answer::Version(e), Answer::Version(a)) => e == a,
             (Answer::Record(e), Answer::Record(a)) => e == a,
+            (Answer::Sending { sending: e, slots: s }, Answer::Sending { sending: a, slots: t }) => {
+                e == a && s == t
+            }
             _ => false,
         }
     }
@@ -207,6 +248,9 @@ impl Call {
                 | Call::Zone { table: None, .. }
                 | Call::Partition { table: None, .. }
                 | Call::System { table: None }
+                | Call::Take { slots: None, .. }
+                | Call::Tick { slots: None }
+                | Call::Told { slots: None, .. }
         )
     }
 
@@ -226,6 +270,10 @@ impl Call {
             Call::Zone { .. } => 12,
             Call::Partition { .. } => 13,
             Call::System { .. } => 14,
+            Call::Lend { .. } => 15,
+            Call::Take { .. } => 16,
+            Call::Tick { .. } => 17,
+            Call::Told { .. } => 18,
         }
     }
 
@@ -267,6 +315,12 @@ impl Call {
                 put_buffer(line, bytes);
             }
             Call::Keep { table } => put_buffer(line, table),
+            Call::Lend { slots } => put_buffer(line, slots),
+            Call::Take { slots, message } | Call::Told { slots, message } => {
+                slots.iter().for_each(|lent| put_buffer(line, &lent.bytes));
+                put_buffer(line, message);
+            }
+            Call::Tick { slots } => slots.iter().for_each(|lent| put_buffer(line, &lent.bytes)),
             Call::Show { .. } | Call::Version => {}
         }
     }
@@ -300,7 +354,14 @@ impl Call {
                     None => Answer::Beside,
                 }
             }
-            Call::Keep { .. } => Answer::Nothing,
+            Call::Keep { .. } | Call::Lend { .. } => Answer::Nothing,
+            Call::Take { slots, .. } | Call::Tick { slots } | Call::Told { slots, .. } => {
+                let sending = taken.sending()?;
+                match taken.lent(slots.as_ref().map_or(SLOTS * SLOT_BYTES, |lent| lent.bytes.len()))? {
+                    Some(slots) => Answer::Sending { sending, slots },
+                    None => Answer::Beside,
+                }
+            }
             Call::Show { length } => Answer::Table(taken.bytes(*length)?),
             Call::Version => Answer::Version(taken.number(4)? as u32),
             Call::Zone { .. } => Answer::Record(taken.bytes(ZONE_RECORD)?),
@@ -358,6 +419,13 @@ impl<R: Read> Taken<'_, R> {
         Ok((Reading { reader, used, verdict, type_byte, length, message }, reply))
     }
 
+    fn sending(&mut self) -> io::Result<Sending> {
+        let (number, ended, length) = (self.byte()?, self.byte()?, self.byte()?);
+        let mut message = [0; LONGEST_COMMAND];
+        self.from.read_exact(&mut message)?;
+        Ok(Sending { number, ended, length, message })
+    }
+
     fn group(&mut self) -> io::Result<Group> {
         let (heard, faulted) = (self.number(2)? as u16, self.number(2)? as u16);
         let (known, share) = (self.byte()?, f64::from_bits(self.number(8)?));
@@ -402,6 +470,12 @@ impl fmt::Display for Reading {
     }
 }
 
+impl fmt::Display for Lent {
+    fn fmt(&self, f: &mut fmt::Formatter) -> fmt::Result {
+        write!(f, "{} (wrong: {:?})", Hex(&self.bytes), self.wrong)
+    }
+}
+
 fn own_or_kept(own: &Option<impl fmt::Display>) -> String {
     own.as_ref().map_or_else(|| "the kept one".to_string(), |o| o.to_string())
 }
@@ -442,6 +516,14 @@ impl fmt::Display for Call {
                 write!(f, "partition {partition} of table {}", table_or_kept(table))
             }
             Call::System { table } => write!(f, "system of table {}", table_or_kept(table)),
+            Call::Lend { slots } => write!(f, "lend slots {}", Hex(slots)),
+            Call::Take { slots, message } => {
+                write!(f, "take message {} slots {}", Hex(message), own_or_kept(slots))
+            }
+            Call::Tick { slots } => write!(f, "tick slots {}", own_or_kept(slots)),
+            Call::Told { slots, message } => {
+                write!(f, "told message {} slots {}", Hex(message), own_or_kept(slots))
+            }
         }
     }
 }
@@ -469,6 +551,10 @@ impl fmt::Display for Answer {
             Answer::Table(table) => write!(f, "table {}", Hex(table)),
             Answer::Version(number) => write!(f, "version {number}"),
             Answer::Record(record) => write!(f, "record {}", Hex(record)),
+            Answer::Sending { sending: Sending { number, ended, length, message }, slots } => {
+                let (message, slots) = (Hex(message), Hex(slots));
+                write!(f, "number {number} ended {ended:02X} length {length} message {message} slots {slots}")
+            }
             Answer::Beside => write!(f, "a byte beside the lent buffer was touched"),
         }
     }

@@ -1,11 +1,13 @@
-//! How often each verdict, refusal and reply was answered, and which of them must have been.
+//! How often each verdict, refusal, reply and way of ending was answered, and which must have been.
 
-use crate::calls::{Answer, Call};
+use crate::calls::{Answer, Call, Lent};
+use crate::commands::{from_memory, waiting, Sending, GIVEN_UP};
 use crate::messages::LENGTHS;
+use crate::odd::{Wrong, WRONGS};
 use crate::reader::NONE;
 
 /// What is counted apart, and the numbers that a run must have met in it. Refusal 10 has no cause.
-const ROWS: [(&str, &[u8]); 12] = [
+const ROWS: [(&str, &[u8]); 22] = [
     ("read and step, binary: verdict", &[0, 1, 4, 5, 6, 7, 8, 12, NONE]),
     ("read and step, ASCII: verdict", &[0, 1, 2, 3, 4, 5, 6, 7, 8, 12, NONE]),
     ("hear: verdict", &[0, 1, 2, 3, 4, 5, 6, 7, 8, 11, 12, NONE]),
@@ -18,24 +20,58 @@ const ROWS: [(&str, &[u8]); 12] = [
     ("zone: number", &[0, 11]),
     ("partition: number", &[0, 8, 11]),
     ("system: number", &[0, 11]),
+    ("take: number", &[0, 4, 6, 7, 8, 13, 14, 22]),
+    ("take: ended by", &[0]),
+    ("take: what goes out", &GOES_OUT),
+    ("tick: number", &[0, 22]),
+    ("tick: ended by", &[0, GIVEN_UP]),
+    ("tick: what goes out", &GOES_OUT),
+    ("told: number", &[0, 4, 6, 7, 8, 22]),
+    ("told: ended by", &[0, GIVEN_UP, 0x12, 0x1C, 0x1D, 0x1F]),
+    ("told: what goes out", &GOES_OUT),
+    ("taken: how many wait then", &[1, 2, 3, 4, 5, 6, 7, 8]),
 ];
+/// Where the rows of take, tick and told begin: number, ended, what goes out.
+const TAKE: usize = 12;
+const TICK: usize = 15;
+const TOLD: usize = 18;
+const WAITING: usize = 21;
+/// Nothing, and the 14 with their flag set.
+const GOES_OUT: [u8; 15] =
+    [0, 0xA9, 0xAB, 0xAC, 0xB1, 0xB4, 0xB5, 0xB6, 0xB7, 0xBA, 0xBB, 0xBC, 0xBD, 0xBE, 0xBF];
+/// Calls on slots with each thing wrong, and on slots with none, that a run must have made.
+pub const ODD_SLOTS: u64 = 100;
 /// Good frames of each number that a run must have read, in each framing.
 pub const GOOD_FRAMES: u64 = 1000;
 
 pub struct Counts {
     rows: [[u64; 256]; ROWS.len()],
     good: [[u64; 64]; 2],
+    wrong: [u64; WRONGS.len()],
 }
 
 impl Counts {
     pub fn new() -> Counts {
-        Counts { rows: [[0; 256]; ROWS.len()], good: [[0; 64]; 2] }
+        Counts { rows: [[0; 256]; ROWS.len()], good: [[0; 64]; 2], wrong: [0; WRONGS.len()] }
     }
 
     pub fn add(&mut self, other: &Counts) {
         let mine = self.rows.iter_mut().flatten().chain(self.good.iter_mut().flatten());
         let theirs = other.rows.iter().flatten().chain(other.good.iter().flatten());
         mine.zip(theirs).for_each(|(mine, theirs)| *mine += theirs);
+        self.wrong.iter_mut().zip(&other.wrong).for_each(|(mine, theirs)| *mine += theirs);
+    }
+
+    fn count_sending(&mut self, row: usize, sending: &Sending, lent: &Option<Lent>) {
+        self.rows[row][usize::from(sending.number)] += 1;
+        self.rows[row + 1][usize::from(sending.ended)] += 1;
+        self.rows[row + 2][usize::from(sending.message[0])] += 1;
+        if let Some(Lent { wrong, .. }) = lent {
+            // sound slots refuse nothing by themselves, the others everything
+            if (sending.number == 22) != (*wrong == Wrong::Nothing) {
+                self.wrong[*wrong as usize] += 1;
+            }
+        }
     }
 
     pub fn count(&mut self, call: &Call, answer: &Answer) {
@@ -61,6 +97,18 @@ impl Counts {
             (Call::Zone { .. }, Answer::Record(record)) => add(9, record[0]),
             (Call::Partition { .. }, Answer::Record(record)) => add(10, record[0]),
             (Call::System { .. }, Answer::Record(record)) => add(11, record[0]),
+            (Call::Take { slots: lent, .. }, Answer::Sending { sending, slots }) => {
+                if sending.number == 0 {
+                    add(WAITING, waiting(&from_memory(slots)) as u8);
+                }
+                self.count_sending(TAKE, sending, lent);
+            }
+            (Call::Tick { slots }, Answer::Sending { sending, .. }) => {
+                self.count_sending(TICK, sending, slots);
+            }
+            (Call::Told { slots, .. }, Answer::Sending { sending, .. }) => {
+                self.count_sending(TOLD, sending, slots);
+            }
             _ => {}
         }
     }
@@ -69,10 +117,12 @@ impl Counts {
     pub fn print(&self) -> Vec<String> {
         let mut missing = Vec::new();
         for ((name, wanted), row) in ROWS.iter().zip(&self.rows) {
-            let in_hex = name.ends_with("reply");
+            let ends = name.ends_with("ended by");
+            let in_hex = ends || name.ends_with("reply") || name.ends_with("goes out");
             let show = |number: u8| match number {
                 NONE => "none".to_string(),
                 0 if in_hex => "none".to_string(),
+                GIVEN_UP if ends => "given up".to_string(),
                 _ if in_hex => format!("{number:02X}"),
                 _ => number.to_string(),
             };
@@ -88,6 +138,15 @@ impl Counts {
                     .map(|&n| format!("{name} {} was never answered", show(n))),
             );
         }
+        let by_wrong = WRONGS.iter().zip(&self.wrong);
+        let met: Vec<String> =
+            by_wrong.clone().map(|((_, name), count)| format!("{name} x {count}")).collect();
+        println!("  what is wrong with made slots, 22 but for nothing: {}", met.join(", "));
+        missing.extend(
+            by_wrong.filter(|(_, &count)| count < ODD_SLOTS).map(|((_, name), _)| {
+                format!("fewer than {ODD_SLOTS} calls on slots with this wrong: {name}")
+            }),
+        );
         let fewest = |good: &[u64; 64]| LENGTHS.iter().map(|row| good[usize::from(row.0)]).min();
         for (good, framing) in self.good.iter().zip(["binary", "ASCII"]) {
             let fewest = fewest(good).unwrap_or(0);

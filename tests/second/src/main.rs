@@ -1,13 +1,16 @@
-//! The independent second program: the NX-584 protocol written a second time, from documents 01 and 003
+//! The independent second program: the NX-584 protocol written a second time, from documents 01, 02 and 003
 //! alone. It judges a stream by its parts and steps nothing. tests/run holds the library's answers to its.
 
 mod calls;
 mod cards;
+mod commands;
 mod counts;
 mod driver;
+mod lines;
 mod made;
 mod messages;
 mod nxread;
+mod odd;
 mod parts;
 mod reader;
 mod report;
@@ -139,7 +142,7 @@ fn run_library(words: &Words) -> ! {
     println!("{made} calls were answered:");
     let missing = counts.print();
     missing.iter().for_each(|line| println!("  {line}"));
-    tally.note("every verdict, refusal and reply was met", missing.is_empty());
+    tally.note("every verdict, refusal, reply and way of ending was met", missing.is_empty());
     tally.end()
 }
 

@@ -1,8 +1,12 @@
 //! What must hold of the second program's own answers, beside the cards.
 
+use std::collections::VecDeque;
+
 use crate::calls::{Answer, Call, Library, Second};
+use crate::commands::{take, tick, told, waiting, Sending, Slot, GIVEN_UP, NOT_ENDED, SLOTS};
 use crate::made::{self, Chance};
 use crate::messages::{sums, sums_in_eight_bits, verdict_of, LENGTHS};
+use crate::odd;
 use crate::parts::{frame, verdicts, Ascii, Binary, Framing, Judged};
 use crate::reader::NONE;
 use crate::table::{apply, partition_record, system_record, zone_record, TABLE_BYTES};
@@ -106,6 +110,98 @@ fn records_are_what_was_said() -> bool {
         && system_record(&table) == [0, 1, 0x51, 0x52, 0x53, 0x54, 0x55, 0x56, 0x57, 0x58, 0x59, 0x5A, 0x5B]
 }
 
+/// A command to which nothing answers goes out four times, six ticks apart, and is given up.
+fn silence_gives_up() -> bool {
+    let mut slots = vec![Slot::default(); SLOTS];
+    let taken = take(&mut slots, &[0x3F, 0x09]);
+    let ticked: Vec<Sending> = (0..30).map(|_| tick(&mut slots)).collect();
+    let after = |wanted: fn(&Sending) -> bool| -> Vec<usize> {
+        (1..=30).filter(|&k| wanted(&ticked[k - 1])).collect()
+    };
+    (taken.length, taken.message[..2].to_vec()) == (2, vec![0xBF, 0x09])
+        && after(|a| a.length > 0) == [6, 12, 18]
+        && after(|a| a.ended == GIVEN_UP) == [24]
+        && after(|a| a.ended != NOT_ENDED) == [24]
+        && slots == vec![Slot::default(); SLOTS]
+}
+
+/// A command that waits: the message, the ticks in which it must have ended, how often it went out.
+struct Waits {
+    message: Vec<u8>,
+    ticks_left: usize,
+    sent: usize,
+}
+
+/// What document 02 says of a line as a whole, held to the answers of a run.
+struct Book {
+    waits: VecDeque<Waits>,
+    taken: usize,
+    ended: usize,
+    holds: bool,
+}
+
+impl Book {
+    fn take(&mut self, said: &Sending, message: &[u8]) {
+        if said.number == 0 {
+            let mut message = message.to_vec();
+            message[0] |= 0x80;
+            let ticks_left = 24 * (self.waits.len() + 1);
+            self.waits.push_back(Waits { message, ticks_left, sent: 0 });
+            self.taken += 1;
+        }
+    }
+
+    fn tick(&mut self) {
+        self.waits.iter_mut().for_each(|w| w.ticks_left -= 1);
+    }
+
+    /// The oldest alone goes out, at most four times; whoever waits still has time; nobody is lost.
+    fn check(&mut self, said: &Sending, slots: &[Slot]) {
+        if said.ended != NOT_ENDED {
+            self.waits.pop_front();
+            self.ended += 1;
+        }
+        let went_out = match self.waits.front_mut() {
+            Some(front) if said.length > 0 => {
+                front.sent += 1;
+                front.sent <= 4 && front.message == said.message[..usize::from(said.length)]
+            }
+            _ => said.length == 0,
+        };
+        self.holds &= went_out
+            && said.number != 22
+            && self.waits.iter().all(|w| w.ticks_left > 0)
+            && self.waits.iter().skip(1).all(|w| w.sent == 0)
+            && self.waits.len() == waiting(slots)
+            && self.taken == self.ended + waiting(slots);
+    }
+}
+
+fn lines_keep_their_word(chance: &mut Chance) -> bool {
+    (0..300).all(|_| {
+        let mut book = Book { waits: VecDeque::new(), taken: 0, ended: 0, holds: true };
+        let mut slots = vec![Slot::default(); SLOTS];
+        let busy = 2 + chance.below(20);
+        for _ in 0..500 {
+            let said = match chance.below(busy) {
+                0 => {
+                    let message = odd::command(chance);
+                    let said = take(&mut slots, &message);
+                    book.take(&said, &message);
+                    said
+                }
+                1 => told(&mut slots, &made::some_good_message(chance)),
+                _ => {
+                    book.tick();
+                    tick(&mut slots)
+                }
+            };
+            book.check(&said, &slots);
+        }
+        book.holds && book.taken > 0 && book.ended > 0
+    })
+}
+
 pub fn run(chance: &mut Chance, tally: &mut Tally) {
     tally.note("document 003's worked example", worked_example());
     tally.note("sums are those of document 003's pseudo-code", sums_are_the_pseudo_code(chance));
@@ -113,4 +209,6 @@ pub fn run(chance: &mut Chance, tally: &mut Tally) {
     tally.note("written frames are read back", frames_are_read_back(chance));
     tally.note("cuts do not matter", cuts_do_not_matter(chance));
     tally.note("records are what was said", records_are_what_was_said());
+    tally.note("a silent gateway: sent four times, given up", silence_gives_up());
+    tally.note("commands: in time, oldest first, none lost", lines_keep_their_word(chance));
 }

@@ -3,6 +3,7 @@
 use crate::calls::{Answer, Call};
 use crate::counts::GOOD_FRAMES;
 use crate::driver::Calls;
+use crate::lines;
 use crate::made::{self, Chance};
 use crate::messages::{LENGTHS, LONGEST};
 use crate::parts::{frame, Ascii, Binary, Framing};
@@ -17,20 +18,29 @@ pub struct Trial {
     pub make: fn(&mut Chance, &mut Calls, u64),
 }
 
-pub const TRIALS: [Trial; 13] = [
+pub const TRIALS: [Trial; 18] = [
     Trial { name: "reply: all 65,536 pairs", share: 0, make: all_replies },
     Trial { name: "every type byte at every length", share: 0, make: all_types_and_lengths },
     Trial { name: "every value of every byte of every message", share: 0, make: all_values },
     Trial { name: "X-10: every function with units", share: 0, make: all_x10 },
     Trial { name: "good frames of every number", share: 0, make: good_frames },
     Trial { name: "readers at every edge of held", share: 0, make: edge_readers },
-    Trial { name: "streams cut at random, read and step", share: 38, make: cut_streams },
-    Trial { name: "streams cut at random, hear", share: 19, make: heard_streams },
-    Trial { name: "readers of any kind", share: 15, make: any_readers },
-    Trial { name: "write around the edges of the buffer", share: 14, make: edge_writes },
+    Trial {
+        name: "commands: every type byte at every length, taken and told",
+        share: 0,
+        make: lines::all_types,
+    },
+    Trial { name: "commands: every message told to every front", share: 0, make: lines::all_fronts },
+    Trial { name: "commands: slots with one thing wrong", share: 0, make: lines::all_wrongs },
+    Trial { name: "streams cut at random, read and step", share: 34, make: cut_streams },
+    Trial { name: "streams cut at random, hear", share: 17, make: heard_streams },
+    Trial { name: "readers of any kind", share: 14, make: any_readers },
+    Trial { name: "write around the edges of the buffer", share: 13, make: edge_writes },
     Trial { name: "apply to any table", share: 5, make: any_applies },
     Trial { name: "view of any table", share: 4, make: any_views },
     Trial { name: "version, every zone and partition of any table", share: 5, make: any_records },
+    Trial { name: "commands: runs from empty slots", share: 5, make: lines::runs_from_empty },
+    Trial { name: "commands: runs from any sound slots", share: 3, make: lines::runs_from_any },
 ];
 
 const FRAMINGS: [Framing; 2] = [Binary, Ascii];
