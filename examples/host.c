@@ -1,5 +1,5 @@
-/* A unit's main loop over libnx584: hear the gateway, answer it, keep the table. The text below says how it
- * is used. Linux; build it as the top of nx584.h says. */
+/* A unit's main loop over libnx584: hear the gateway, answer it, keep the table, send commands until they are
+ * acknowledged. The text below says how it is used. Linux; build it as the top of nx584.h says. */
 #define _GNU_SOURCE /* ppoll */
 #include "nx584.h"
 
@@ -15,32 +15,64 @@
 #include <unistd.h>
 
 static const char usage[] =
-    "usage: host [--ascii] [--speed N] [--wait MS] [--table FILE] [LINE]\n"
+    "usage: host [--ascii] [--speed N] [--wait MS] [--table FILE] [--commands FILE] [--tick MS] [LINE]\n"
     "Hears a gateway on LINE, a terminal as /dev/ttyS0, and answers it there. Without one it hears standard\n"
     "input and answers on standard output.\n"
-    "  --ascii       the gateway speaks ASCII; else binary\n"
-    "  --speed N     the line's speed, 600 to 115200 baud (9600); always 8 data bits, no parity, 1 stop bit\n"
-    "  --wait MS     between two tries to open a line that went away (1000)\n"
-    "  --table FILE  write the table there at the end\n"
+    "  --ascii          the gateway speaks ASCII; else binary\n"
+    "  --speed N        the line's speed, 600 to 115200 baud (9600); always 8 data bits, no parity, 1 stop bit\n"
+    "  --wait MS        between two tries to open a line that went away (1000)\n"
+    "  --table FILE     write the table there at the end\n"
+    "  --commands FILE  send the commands of FILE, up to its end: in each line one message in hexadecimal, as\n"
+    "                   3F 09 for a bypass of zone 10. A FIFO does, and /dev/fd/3 is descriptor 3\n"
+    "  --tick MS        between two ticks (500): a command is sent again after six without an answer\n"
+    "How each command ended goes to standard error, with the number of its line in FILE; eight wait at most, and\n"
+    "lines beyond them are read when one has ended.\n"
     "The overview goes to standard error at the end and whenever SIGUSR1 comes. SIGINT, SIGTERM and SIGHUP\n"
     "end the program; a terminal then has its settings of before.\n"
     "Status: 0 ended well, 1 the line or a file failed, 2 wrong use.\n";
+
+enum { COMMAND_TEXT = 256 }; /* more than the longest line that can be a message */
 
 struct unit {
     const char *line; /* NULL: standard input and output */
     const char *table_file;
     uint8_t framing;
     speed_t speed;
-    int wait;    /* milliseconds */
-    int in, out; /* -1 while the line is away */
+    int wait;         /* milliseconds */
+    long long retry;  /* when a line that is away is tried again */
+    int in, out;      /* -1 while the line is away */
     int is_set_up;
     struct termios before;
     int status, at_end;
     nx584_reader reader;
     uint8_t table[NX584_TABLE_BYTES];
+    nx584_slot slots[NX584_SLOTS];
+    unsigned long lines[NX584_SLOTS]; /* of each command that waits, the number of its line */
+    int tick;                         /* milliseconds */
+    long long next_tick;
+    const char *commands_file;
+    int commands;            /* -1 for none, and after the end */
+    char text[COMMAND_TEXT]; /* read and not taken yet */
+    size_t text_count;
+    unsigned long line_number; /* of the last line taken */
+    int is_overlong;           /* the line in text has lost its beginning */
 };
 
-/* ---- signals: they come in only while wait_for waits, so that none is overlooked just before it */
+/* ---- time */
+
+/* Milliseconds, by a clock that nobody sets. */
+static long long now(void) {
+    struct timespec time;
+    clock_gettime(CLOCK_MONOTONIC, &time);
+    return time.tv_sec * 1000LL + time.tv_nsec / 1000000;
+}
+
+static int milliseconds_to(long long when) {
+    long long left = when - now();
+    return left < 0 ? 0 : (int)left;
+}
+
+/* ---- signals: they come in only while the program waits, so that none is overlooked just before it */
 
 static volatile sig_atomic_t asked, stopped;
 static sigset_t let_in;
@@ -71,13 +103,17 @@ static void catch_signals(void) {
     sigaction(SIGPIPE, &action, NULL);
 }
 
-/* Waits until a line is ready, a signal comes or the time is over; a negative time has no end, and line -1
- * is never ready. Whether it is ready, or -1. */
+/* Waits until one of some descriptors is ready, a signal comes or the time is over; a negative time has no
+ * end, and descriptor -1 is never ready. Whether one is ready, or -1. */
+static int wait_for_any(struct pollfd *polls, unsigned count, int milliseconds) {
+    struct timespec time = {milliseconds / 1000, milliseconds % 1000 * 1000000L};
+    int ready = ppoll(polls, count, milliseconds < 0 ? NULL : &time, &let_in);
+    return ready < 0 && errno == EINTR ? 0 : ready;
+}
+
 static int wait_for(int line, short events, int milliseconds) {
     struct pollfd poll = {line, events, 0};
-    struct timespec time = {milliseconds / 1000, milliseconds % 1000 * 1000000L};
-    int ready = ppoll(&poll, 1, milliseconds < 0 ? NULL : &time, &let_in);
-    return ready < 0 && errno == EINTR ? 0 : ready;
+    return wait_for_any(&poll, 1, milliseconds);
 }
 
 /* ---- the line */
@@ -135,8 +171,8 @@ static void put_back(struct unit *u) {
         tcsetattr(u->in, TCSADRAIN, &u->before);
 }
 
-/* A line with a name is opened again by the main loop; the reader keeps what it holds. why: 0 is the end of
- * the input. */
+/* A line with a name is opened again by the main loop; the reader keeps what it holds, and commands go on to
+ * count their ticks. why: 0 is the end of the input. */
 static void lose_line(struct unit *u, int why) {
     const char *said = why ? strerror(why) : "its end was reached";
     if (u->line) {
@@ -144,6 +180,7 @@ static void lose_line(struct unit *u, int why) {
         close(u->in);
         u->in = u->out = -1;
         u->is_set_up = 0;
+        u->retry = now() + u->wait;
         return;
     }
     u->at_end = 1;
@@ -169,13 +206,161 @@ static int send_all(int line, const uint8_t *bytes, size_t count) {
     return 0;
 }
 
-/* A reply is a message of one byte, in the line's framing. */
-static void send_reply(struct unit *u, uint8_t reply) {
+/* In the line's framing. To a line that is away nothing is sent. */
+static void send_message(struct unit *u, const uint8_t *message, size_t length) {
     uint8_t frame[NX584_FRAME_MOST];
-    nx584_written w = nx584_write(&reply, 1, u->framing, frame, sizeof frame, 0);
+    nx584_written w = nx584_write(message, length, u->framing, frame, sizeof frame, 0);
     if (u->out >= 0 && send_all(u->out, frame, w.length) != 0)
         lose_line(u, errno);
 }
+
+/* ---- commands */
+
+static size_t waiting(const struct unit *u) {
+    size_t count = 0;
+    while (count < NX584_SLOTS && u->slots[count].length != 0)
+        count++;
+    return count;
+}
+
+static const char *how(uint8_t ended) {
+    switch (ended) {
+    case NX584_ENDED_ACKNOWLEDGED: return "acknowledged";
+    case NX584_ENDED_FAILED: return "failed";
+    case NX584_ENDED_REJECTED: return "rejected";
+    case NX584_ENDED_REPLIED: return "answered";
+    default: return "given up";
+    }
+}
+
+static const char *meaning(uint8_t refusal) {
+    switch (refusal) {
+    case NX584_BAD_LENGTH: return "longer than a message can be";
+    case NX584_UNKNOWN: return "the number is none of the 41";
+    case NX584_WRONG_LENGTH: return "the length is not that of its number";
+    case NX584_BAD_VALUE: return "a value is out of its range";
+    case NX584_NO_COMMAND: return "it is none of the 14 commands";
+    case NX584_ALL_WAITING: return "eight commands wait";
+    default: return "the slots are not sound";
+    }
+}
+
+/* What a call answered: the front, before the call a command of this type byte, may have ended, and one may go
+ * out. Its bytes are not printed, as a PIN may be among them. */
+static void follow(struct unit *u, nx584_sending a, uint8_t front) {
+    if (a.ended != NX584_NOT_ENDED) {
+        fprintf(stderr, "host: command %lu (%02X) %s\n", u->lines[0], front & 0x3F, how(a.ended));
+        memmove(u->lines, u->lines + 1, sizeof u->lines - sizeof *u->lines);
+    }
+    if (a.length > 0)
+        send_message(u, a.message, a.length);
+}
+
+static void take_command(struct unit *u, const uint8_t *message, size_t length) {
+    nx584_sending a = nx584_take(u->slots, NX584_SLOTS, message, length);
+    if (a.number != 0) {
+        fprintf(stderr, "host: command %lu refused: %d, %s\n", u->line_number, a.number, meaning(a.number));
+        return;
+    }
+    u->lines[waiting(u) - 1] = u->line_number;
+    follow(u, a, 0);
+}
+
+static void tell(struct unit *u, const uint8_t *message, size_t length) {
+    uint8_t front = u->slots[0].message[0];
+    follow(u, nx584_told(u->slots, NX584_SLOTS, message, length), front);
+}
+
+/* Where ticks are due that a slow line held up, they are one. */
+static void tick_in_time(struct unit *u) {
+    uint8_t front = u->slots[0].message[0];
+    if (u->next_tick > now())
+        return;
+    u->next_tick += u->tick;
+    if (u->next_tick <= now())
+        u->next_tick = now() + u->tick;
+    follow(u, nx584_tick(u->slots, NX584_SLOTS), front);
+}
+
+/* ---- the commands' file */
+
+static int digit(char c) {
+    if (c >= '0' && c <= '9')
+        return c - '0';
+    if (c >= 'A' && c <= 'F')
+        return c - 'A' + 10;
+    return c >= 'a' && c <= 'f' ? c - 'a' + 10 : -1;
+}
+
+/* How many bytes a line has, with blanks between them or none; -1 where it is something else. */
+static int bytes_of(const char *text, size_t count, uint8_t *bytes) {
+    int n = 0;
+    for (size_t k = 0; k < count; k++) {
+        if (text[k] == ' ' || text[k] == '\t' || text[k] == '\r')
+            continue;
+        int high = digit(text[k]), low = k + 1 < count ? digit(text[k + 1]) : -1;
+        if (high < 0 || low < 0)
+            return -1;
+        bytes[n++] = (uint8_t)(high << 4 | low);
+        k++;
+    }
+    return n;
+}
+
+static void take_line(struct unit *u, const char *text, size_t count) {
+    uint8_t bytes[COMMAND_TEXT / 2];
+    int n = u->is_overlong ? -1 : bytes_of(text, count, bytes);
+    u->is_overlong = 0;
+    u->line_number++;
+    if (n < 0)
+        fprintf(stderr, "host: command %lu refused: it is not written as bytes in hexadecimal\n", u->line_number);
+    if (n > 0)
+        take_command(u, bytes, (size_t)n);
+}
+
+/* The lines that were read, as long as a slot is free. */
+static void take_lines(struct unit *u) {
+    char *end;
+    while (waiting(u) < NX584_SLOTS && (end = memchr(u->text, '\n', u->text_count)) != NULL) {
+        size_t count = (size_t)(end - u->text);
+        take_line(u, u->text, count);
+        u->text_count -= count + 1;
+        memmove(u->text, end + 1, u->text_count);
+    }
+    if (u->text_count == sizeof u->text && !memchr(u->text, '\n', u->text_count)) {
+        u->is_overlong = 1;
+        u->text_count = 0;
+    }
+}
+
+/* Only where a slot is free: then no whole line is in the text, and it has room. */
+static void read_commands(struct unit *u) {
+    ssize_t n = read(u->commands, u->text + u->text_count, sizeof u->text - u->text_count);
+    if (n > 0)
+        u->text_count += (size_t)n;
+    if (n > 0 || (n < 0 && (errno == EAGAIN || errno == EINTR)))
+        return;
+    if (n < 0) {
+        fprintf(stderr, "host: cannot read %s: %s\n", u->commands_file, strerror(errno));
+        u->status = 1;
+    }
+    close(u->commands);
+    u->commands = -1;
+    if (u->text_count > 0 || u->is_overlong) /* a last line that has no end */
+        u->text[u->text_count++] = '\n';
+}
+
+static int open_commands(struct unit *u) {
+    if (!u->commands_file)
+        return 0;
+    u->commands = open(u->commands_file, O_RDONLY | O_NOCTTY | O_NONBLOCK | O_CLOEXEC);
+    if (u->commands >= 0)
+        return 0;
+    fprintf(stderr, "host: cannot open %s: %s\n", u->commands_file, strerror(errno));
+    return -1;
+}
+
+/* ---- hearing */
 
 static void hear(struct unit *u, const uint8_t *bytes, size_t count) {
     for (size_t at = 0; at < count;) {
@@ -183,20 +368,19 @@ static void hear(struct unit *u, const uint8_t *bytes, size_t count) {
         u->reader = h.reader;
         at += h.used; /* what is unused is handed in again */
         if (h.reply != NX584_NO_REPLY)
-            send_reply(u, h.reply);
+            send_message(u, &h.reply, 1);
+        if (h.verdict == NX584_GOOD)
+            tell(u, h.message, h.length);
     }
 }
 
-/* One read, once there is something to read. */
+/* One read, where there is something to read. */
 static void hear_some(struct unit *u) {
     uint8_t bytes[256];
     ssize_t n;
-    int ready = wait_for(u->in, POLLIN, -1);
-    if (ready == 0)
-        return;
     do
-        n = ready < 0 ? -1 : read(u->in, bytes, sizeof bytes);
-    while (ready > 0 && n < 0 && errno == EINTR);
+        n = read(u->in, bytes, sizeof bytes);
+    while (n < 0 && errno == EINTR);
     if (n > 0)
         hear(u, bytes, (size_t)n);
     else if (n == 0 || errno != EAGAIN)
@@ -289,9 +473,17 @@ static int take_option(struct unit *u, const char *option, const char *value) {
         u->table_file = value;
         return 2;
     }
+    if (strcmp(option, "--commands") == 0) {
+        u->commands_file = value;
+        return 2;
+    }
     if (strcmp(option, "--wait") == 0) {
         u->wait = (int)number(value, 1, 86400000);
         return u->wait ? 2 : 0;
+    }
+    if (strcmp(option, "--tick") == 0) {
+        u->tick = (int)number(value, 1, 86400000);
+        return u->tick ? 2 : 0;
     }
     return strcmp(option, "--speed") == 0 && take_speed(u, value) ? 2 : 0;
 }
@@ -310,6 +502,9 @@ static int take_words(struct unit *u, char **words) {
 static int start(struct unit *u) {
     catch_signals();
     u->reader = nx584_fresh(u->framing);
+    u->next_tick = now() + u->tick;
+    if (open_commands(u) != 0)
+        return -1;
     if (!u->line)
         return take_standard_lines(u);
     if (open_line(u) == 0)
@@ -318,29 +513,51 @@ static int start(struct unit *u) {
     return -1;
 }
 
-/* A turn waits once: for bytes or, where the line is away, to try it again. A signal ends every wait. */
+/* How long a turn waits at most: up to the next tick, if a command waits, and to the next try of the line. */
+static int patience(const struct unit *u) {
+    int tick = u->slots[0].length > 0 ? milliseconds_to(u->next_tick) : -1;
+    int retry = u->in < 0 ? milliseconds_to(u->retry) : -1;
+    if (tick < 0 || retry < 0)
+        return tick < 0 ? retry : tick;
+    return tick < retry ? tick : retry;
+}
+
+/* A turn waits once: for bytes, for commands where a slot is free, for a tick, or to try a line that is away.
+ * It reads little of each, so that none waits long for the others. A signal ends every wait. */
+static void take_turn(struct unit *u) {
+    struct pollfd polls[] = {{u->in, POLLIN, 0}, {waiting(u) < NX584_SLOTS ? u->commands : -1, POLLIN, 0}};
+    if (wait_for_any(polls, 2, patience(u)) < 0)
+        lose_line(u, errno);
+    else if (polls[0].revents)
+        hear_some(u);
+    tick_in_time(u);
+    if (polls[1].revents)
+        read_commands(u);
+    take_lines(u);
+    if (u->in < 0 && !stopped && milliseconds_to(u->retry) == 0 && open_line(u) != 0)
+        u->retry = now() + u->wait;
+}
+
 static void run(struct unit *u) {
     while (!stopped && !u->at_end) {
         if (asked) {
             asked = 0;
             show(u->table);
         }
-        if (u->in >= 0) {
-            hear_some(u);
-            continue;
-        }
-        wait_for(-1, 0, u->wait);
-        if (!stopped)
-            open_line(u);
+        take_turn(u);
     }
     if (u->in < 0)
         u->status = 1;
+    if (waiting(u) > 0)
+        fprintf(stderr, "host: commands that still wait: %zu\n", waiting(u));
 }
 
 int main(int argc, char **argv) {
     static struct unit u; /* a table of zeros is fresh */
     u.speed = B9600;
     u.wait = 1000;
+    u.tick = 500;
+    u.commands = -1;
     if (argc == 2 && strcmp(argv[1], "--help") == 0)
         return fputs(usage, stdout) < 0 || fflush(stdout) != 0;
     if (take_words(&u, argv + 1) != 0) {

@@ -149,11 +149,11 @@ class Host:
 
     started = []
 
-    def __init__(self, home, command, words, stdin=subprocess.DEVNULL, stdout=subprocess.DEVNULL):
+    def __init__(self, home, command, words, stdin=subprocess.DEVNULL, stdout=subprocess.DEVNULL, pass_fds=()):
         self.said_in, self.table_in = os.path.join(home, "said"), os.path.join(home, "table")
         with open(self.said_in, "wb") as said:
             self.process = subprocess.Popen(command + ["--table", self.table_in] + words, stdin=stdin, stdout=stdout,
-                                            stderr=said, start_new_session=True)
+                                            stderr=said, start_new_session=True, pass_fds=pass_fds)
         Host.started.append(self)
 
     def said(self):
@@ -211,8 +211,8 @@ class Trials:
             yield data[at:at + some]
             at += some
 
-    def started(self, home, line, words):
-        host = Host(home, self.command, words + [line.path])
+    def started(self, home, line, words, pass_fds=()):
+        host = Host(home, self.command, words + [line.path], pass_fds=pass_fds)
         self.hearing = host.said_often("hearing", 1)
         return host
 
@@ -379,14 +379,15 @@ class Trials:
         self.captures(home)
 
 
-def main(words):
+def main(words, kind, usage):
+    """Runs the trials of a kind; gives the status."""
     if words == ["--help"]:
-        print(__doc__)
+        print(usage)
         return 0
     if len(words) < 3 or not words[0].isdecimal() or words[1] != "--":
-        print(__doc__, file=sys.stderr)
+        print(usage, file=sys.stderr)
         return 2
-    trials = Trials(int(words[0]), words[2:])
+    trials = kind(int(words[0]), words[2:])
     signal.signal(signal.SIGTERM, lambda *_: sys.exit(143))
     try:
         with tempfile.TemporaryDirectory() as home:
@@ -399,4 +400,4 @@ def main(words):
 
 
 if __name__ == "__main__":
-    sys.exit(main(sys.argv[1:]))
+    sys.exit(main(sys.argv[1:], Trials, __doc__))

@@ -1,6 +1,7 @@
 /* For x86-64: tests/headers/README.md says why. */
 #ifndef STUB_FCNTL_H
 #define STUB_FCNTL_H
+#define O_RDONLY 0
 #define O_RDWR 2
 #define O_NOCTTY 0x100
 #define O_NONBLOCK 0x800

@@ -6,4 +6,6 @@ int strcmp(const char *, const char *);
 char *strerror(int);
 void *memset(void *, int, size_t);
 void *memcpy(void *, const void *, size_t);
+void *memmove(void *, const void *, size_t);
+void *memchr(const void *, int, size_t);
 #endif
