@@ -252,8 +252,10 @@ static void follow(struct unit *u, nx584_sending a, uint8_t front) {
         fprintf(stderr, "host: command %lu (%02X) %s\n", u->lines[0], front & 0x3F, how(a.ended));
         memmove(u->lines, u->lines + 1, sizeof u->lines - sizeof *u->lines);
     }
-    if (a.length > 0)
+    if (a.length > 0) {
         send_message(u, a.message, a.length);
+        u->next_tick = now() + u->tick; /* six whole ticks: a gateway may take 2.5 seconds for its answer */
+    }
 }
 
 static void take_command(struct unit *u, const uint8_t *message, size_t length) {
