@@ -38,9 +38,9 @@ struct unit {
     const char *table_file;
     uint8_t framing;
     speed_t speed;
-    int wait;         /* milliseconds */
-    long long retry;  /* when a line that is away is tried again */
-    int in, out;      /* -1 while the line is away */
+    int wait;        /* milliseconds */
+    long long retry; /* when a line that is away is tried again */
+    int in, out;     /* -1 while the line is away */
     int is_set_up;
     struct termios before;
     int status, at_end;
