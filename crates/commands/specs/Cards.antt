@@ -27,10 +27,10 @@ card calls said = record { calls = calls; said = said }
 
 -- ---- messages: zone 6 bypassed, zone 7; the user code of user 1, with a PIN and without; its authority; the clock
 
-abbrev zoneSix : List ℕ
+abbrev pub zoneSix : List ℕ
 zoneSix = 0x3F ∷ 0x05 ∷ []
 
-abbrev zoneSeven : List ℕ
+abbrev pub zoneSeven : List ℕ
 zoneSeven = 0x3F ∷ 0x06 ∷ []
 
 abbrev codeWithPin : List ℕ
@@ -92,7 +92,9 @@ cards =
     ∷ card (told (0x1D ∷ []) ∷ told (0x1E ∷ []) ∷ tick ∷ take zoneSix ∷ told (0x21 ∷ []) ∷ told zoneSix ∷ [])
     (nothing ∷ nothing ∷ nothing ∷ six ∷ nothing ∷ nothing ∷ [])
     -- "13 not one of the 14, after 8"
-    ∷ card (take [] ∷ take (0x02 ∷ []) ∷ take (0x3F ∷ []) ∷ take (0x3E ∷ 0x10 ∷ 0x01 ∷ []) ∷ take (0x25 ∷ 0xF1 ∷ []) ∷ take (0x25 ∷ 0xF0 ∷ []) ∷ [])
+    ∷ card
+    (take [] ∷ take (0x02 ∷ []) ∷ take (0x3F ∷ []) ∷ take (0x3E ∷ 0x10 ∷ 0x01 ∷ []) ∷ take (0x25 ∷ 0xF1 ∷ [])
+    ∷ take (0x25 ∷ 0xF0 ∷ []) ∷ [])
     (refused 4 ∷ refused 6 ∷ refused 7 ∷ refused 8 ∷ refused 8 ∷ refused 13 ∷ [])
     ∷ card (told [] ∷ told (0x02 ∷ []) ∷ told (0x1D ∷ 0x00 ∷ []) ∷ told (0x25 ∷ 0xF1 ∷ []) ∷ [])
     (refused 4 ∷ refused 6 ∷ refused 7 ∷ refused 8 ∷ [])
