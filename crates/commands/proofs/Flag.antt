@@ -1,10 +1,10 @@
 -- The flag: a message with it is as good as without, of the same number and length, and a good one of the 14 fits its
 -- slot. Assumes nothing.
-use Prim.Native.Nat.{ℕ, _+_, _%_, _≤_}
+use Prim.Native.Nat.{ℕ, zero, suc, _+_, _-_, _%_, _≤_}
 use native.Mathlib.Omega.{arith}
 use mathlib.Core.Path.{_≡_, refl, ap, _∙_}
 use mathlib.Core.Bool.{Bool, true, false, _&&_, _||_}
-use mathlib.Core.List.{List, [], _∷_}
+use mathlib.Core.List.{List, [], _∷_, _++_}
 use lib.Dec.{eqb, leb}
 use lib.ListN.{length, getD, set, take, drop, replicate}
 use lib.Seq.{take-at, length-take-le}
@@ -37,6 +37,18 @@ pub flag-first : (m : List ℕ) → 1 ≤ length m
 unfolding flagged
 flag-first [] h = absurd (omega (arith, h))
 flag-first (t ∷ m) h = refl
+
+-- beyond a message in its array stand zeros
+drop-zeros : (n k : ℕ) → drop n (replicate {A = ℕ} k 0) ≡ replicate (k - n) 0
+drop-zeros zero k = let e : k ≡ k - 0 = omega arith in ap (λ i. replicate {A = ℕ} i 0) e
+drop-zeros (suc n) zero = let e : 0 ≡ 0 - suc n = omega arith in ap (λ i. replicate {A = ℕ} i 0) e
+drop-zeros (suc n) (suc k) =
+    let e : k - n ≡ suc k - suc n = omega arith in drop-zeros n k ∙ ap (λ i. replicate {A = ℕ} i 0) e
+
+pub padded-zeros : (m : List ℕ) → padded m ≡ m ++ replicate (longestCommand - length m) 0
+padded-zeros m =
+    let e : 0 + length m ≡ length m = omega arith in
+    ap (λ n. m ++ drop n (replicate {A = ℕ} longestCommand 0)) e ∙ ap (_++_ m) (drop-zeros (length m) longestCommand)
 
 -- what goes out of a slot has the slot's length
 pub length-out : (n : ℕ) (m : List ℕ) → n ≤ length m → length (flagged (take n m)) ≡ n
