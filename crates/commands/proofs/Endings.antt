@@ -32,8 +32,8 @@ pub ended-one : {a b : Ended} → endedNumber a ≡ endedNumber b → a ≡ b
 ended-one {a} {b} e = sym (back a) ∙ ap endedWith e ∙ back b
 
 -- two answers of the same numbers are the same
-pub sending-one : {x y : Sending} → answerOf x ≡ answerOf y → x ≡ y
-sending-one {x} {y} e =
+pub answer-one : {x y : Sending} → answerOf x ≡ answerOf y → x ≡ y
+answer-one {x} {y} e =
     let ended = ended-one (ap (λ (a : Answer). a .ended) e) in
     λ j. record { number = e j .number; ended = ended j; length = e j .length; message = e j .message }
 

@@ -8,7 +8,7 @@ use denote.Triple.Clauses.{AtExit}
 use Rattle.commands.specs.declared.Eight.{Eight}
 use Rattle.commands.specs.declared.Called.{Called}
 use Rattle.commands.specs.Commands.{blank, After, after, answerOf, row}
-use Rattle.commands.proofs.Endings.{sending-one}
+use Rattle.commands.proofs.Endings.{answer-one}
 use Rattle.commands.proofs.refused.Kinds as refused-kinds
 use Rattle.commands.proofs.refused.Reads as refused
 use Rattle.commands.proofs.take.Kinds as take-kinds
@@ -36,14 +36,14 @@ called-one : {x y : Called} {a : After}
     → after (answerOf (x .answer)) (row (x .line)) ≡ a → after (answerOf (y .answer)) (row (y .line)) ≡ a → x ≡ y
 called-one {x} {y} {a} p q =
     let e = p ∙ sym q in
-    let answer = sending-one (ap (λ (b : After). b .answer) e) in
+    let answer = answer-one (ap (λ (b : After). b .answer) e) in
     let line = eight-one (ap (λ (b : After). b .slots) e) in
     λ j. record { answer = answer j; line = line j }
 
 pub refused-unique : (κs : Lfts 0) (a : Dens κs refused-kinds.ps)
     (e : AtExit (endedOf 0 refused-kinds.ps refused-kinds.r) κs)
     (x y : resT refused-kinds.r κs .Denot) → refused.Post κs a x e → refused.Post κs a y e → x ≡ y
-refused-unique κs a e x y p q = sending-one (p ∙ sym q)
+refused-unique κs a e x y p q = answer-one (p ∙ sym q)
 
 pub take-unique : (κs : Lfts 1) (a : Dens κs take-kinds.ps) (e : AtExit (endedOf 1 take-kinds.ps take-kinds.r) κs)
     (x y : resT take-kinds.r κs .Denot) → take.Post κs a x e → take.Post κs a y e → x ≡ y

@@ -25,6 +25,11 @@ use Rattle.standard.specs.Questions.{tableRefusal, partitionRefusal, partitionP
 use Rattle.standard.proofs.Questions.{whole-asked}
 use Rattle.reader.specs.Step.{stepOf}
 use Rattle.reader.specs.Read.{freshReader, scanOf, readOf}
+use Rattle.commands.specs.declared.Ended.{Ended}
+use Rattle.commands.specs.declared.Ended.the-variants.{Not, GivenUp, Acknowledged, Failed, Rejected, Replied}
+use Rattle.commands.specs.declared.Sending.{Sending}
+use Rattle.commands.specs.Commands.{endedNumber, answerOf}
+use Rattle.commands.proofs.Endings.{ended-one, answer-one}
 use Rattle.nx584.specs.declared.CReader.{CReader}
 use Rattle.nx584.specs.declared.CReading.{CReading}
 use Rattle.nx584.specs.declared.CHearing.{CHearing}
@@ -33,7 +38,9 @@ use Rattle.nx584.specs.declared.CGroup.{CGroup}
 use Rattle.nx584.specs.declared.COverview.{COverview}
 use Rattle.nx584.specs.Boundary.{framingFor, cReader, soundC, padded, CGiven, cRefused, cRead, cReading}
 use Rattle.nx584.specs.Boundary.{cHeard, withReply, cHearing, cLeft, cWritten, cGroup, cOverview}
+use Rattle.nx584.specs.declared.CSending.{CSending}
 use Rattle.nx584.specs.Callers.{cFresh}
+use Rattle.nx584.specs.Line.{cAnswer}
 use Rattle.nx584.specs.Records.{cZone, cPartition, cSystem}
 use Rattle.nx584.proofs.InC.{read-refused, heard-refused}
 use Rattle.nx584.proofs.Parts.{system-sized}
@@ -239,3 +246,31 @@ module _ (t : List ℕ) (h : length t ≡ tableBytes) where
   system-bytes =
       let size = system-sized t (whole-asked t h) in
       rw (whole-asked t h) (headed (systemPart t) (omega arith))
+
+-- ---- the line of commands
+
+-- how the front ended: 0 not, 1 given up, else the number of the message that ended it
+pub not-ended-is-0 : endedNumber Not ≡ 0
+not-ended-is-0 = refl
+
+pub given-up-is-1 : endedNumber GivenUp ≡ 1
+given-up-is-1 = refl
+
+pub acknowledged-is-1D : endedNumber Acknowledged ≡ 0x1D
+acknowledged-is-1D = refl
+
+pub failed-is-1C : endedNumber Failed ≡ 0x1C
+failed-is-1C = refl
+
+pub rejected-is-1F : endedNumber Rejected ≡ 0x1F
+rejected-is-1F = refl
+
+pub replied-is-12 : endedNumber Replied ≡ 0x12
+replied-is-12 = refl
+
+pub ended-once : (a b : Ended) → endedNumber a ≡ endedNumber b → a ≡ b
+ended-once a b e = ended-one e
+
+-- the numbers lose nothing: two answers with the same are one
+pub sending-once : (c : CSending) (r s : Sending) → cAnswer c ≡ answerOf r → cAnswer c ≡ answerOf s → r ≡ s
+sending-once c r s p q = answer-one (sym p ∙ q)

@@ -5,3 +5,4 @@ pub mod Parts
 pub mod Header
 pub mod Unique
 pub mod FreshReader
+pub mod Lent

@@ -5,3 +5,4 @@ pub mod Locals
 pub mod Messaged
 pub mod Shared
 pub mod Thin
+pub mod Unique

@@ -1,6 +1,6 @@
 -- `take` and `told`, whose MIR differs in the name of the core alone: one walk of it by hand, for any core that takes the
 -- line and a message. The slice is lent to `load` and comes back, the line goes through the core by value, and `save`
--- takes the borrow for good. A `&[u8]` is Copy: one copy of what the message owns is kept for the exit.
+-- takes the borrow for good.
 -- Assumes `Given`, and that each callee meets its contract.
 use mathlib.Core.Path.{_≡_, refl, sym, _∙_, ap}
 use mathlib.Core.Bool.{not}
@@ -26,24 +26,21 @@ use types.Kit.{suffices, frame, done}
 use types.Part.{agg, whole, sub, look-in}
 use types.Run.{look, init, stop, hop, fld, from, load, lit, addr, of-opd, bin, and-then, no-more, assigns, land, returns}
 use types.Run.{returns-within, enter, params1, pass1, pass0, free1, free0}
-use sound.WpLaws.{FmC, fmOf, WpFn-mono}
+use sound.WpLaws.{FmC, fmOf}
 use denote.RattleType.{owns}
 use denote.Memory.{pointee}
 use denote.Laws.{Is, shows}
 use denote.Plain.{nothing-lawful}
 use denote.Builtin.{u8}
 use denote.Ref.{RefT, now}
-use denote.Signature.{plain}
-use denote.Slice.{sliceTy, sliceVal, MutSlice, ShrSlice, Room, finally, slice-vals, mut-slice-tells, shr-slice-tells, shr-slice-copy}
+use denote.Slice.{sliceTy, sliceVal, MutSlice, ShrSlice, Room, slice-vals, mut-slice-tells, shr-slice-tells}
 use denote.Steps.{only, owned, peeks, heard, nothing}
 use denote.Struct.Laws as LL
 use denote.Triple.Entry.{Vals, onEntry}
-use denote.Triple.Spec.{Meets, tripleOf}
+use denote.Triple.Spec.{Meets}
 use denote.Triple.Statement.{Contract, Triple}
 use denote.Triple.Clauses.{Clauses, closing}
-use denote.Triple.Walked.{says, Stays, gave-slice, stay-none-slice, walkOf, goes-gave-slice, goes-none-slice, Walks, ends-at}
-use denote.Triple.Walked.{walked, walk-meets}
-use denote.Exit.{yes}
+use denote.Triple.Walked.{says}
 use Rattle.commands.specs.declared.Slot.{Slot}
 use Rattle.commands.specs.declared.Eight.{Eight}
 use Rattle.commands.specs.declared.Sending.{Sending}
@@ -60,9 +57,10 @@ use Rattle.commands.proofs.Called as D
 use Rattle.commands.proofs.Called.Laws as D′
 use Rattle.commands.proofs.refused.Symbol.{name as #commands·refused}
 use Rattle.commands.proofs.take as core
-use Rattle.slots.proofs.Calling.{answers, unless}
+use Rattle.slots.proofs.Calling.{Promise, ends, meets-from, answers, unless}
+use Rattle.slots.proofs.Elements.{slots-at, slice, Last, lending, lends}
 use Rattle.slots.proofs.Locals.{enters, behind, leaves, held}
-use Rattle.slots.proofs.Thin.{Lent, slots-at, slice, Callees, refuses, loads, saves, last-of, not-not}
+use Rattle.slots.proofs.Thin.{Callees, refuses, loads, saves, last-of, not-not}
 use Rattle.slots.proofs.load.Symbol.{name as #slots·load}
 use Rattle.slots.proofs.save.Symbol.{name as #slots·save}
 use Rattle.slots.proofs.take as f
@@ -74,31 +72,25 @@ ref-of ℓ μ = tyRef ℓ μ (pointee (T.the-row .written))
 abbrev pub val : Ty → Local
 val τ = local τ valueLocal
 
--- the slice lent again, as a reference in local i and a slice in local j
-abbrev pub lends : ℕ → ℕ → Body → Body
-lends i j rest =
-    seq (assign (place i []) (addrOf (place 1 (field 0 ∷ deref T′.mir ∷ []))))
-    (seq (assign (place j []) (aggregate (copy (place i []) ∷ copy (place 1 (field 1 ∷ [])) ∷ []))) rest)
-
 abbrev pub messaged : Name → Fn
 messaged core = record {
   lifetimes = 2;
   outlives = [];
   params = 2;
   locals =
-      val O′.mir ∷ val (sliceTy (ref-of (named 0) mut)) ∷ val (sliceTy (tyRef (named 1) imm (tyInt w8))) ∷ val E′.mir
-      ∷ val D′.mir ∷ val (tyInt w64) ∷ val tyBool ∷ val (ref-of erased imm) ∷ val (sliceTy (ref-of erased imm))
-      ∷ val tyUnit ∷ val (ref-of erased mut) ∷ val (sliceTy (ref-of erased mut)) ∷ [];
+    val O′.mir ∷ val (sliceTy (ref-of (named 0) mut)) ∷ val (sliceTy (tyRef (named 1) imm (tyInt w8))) ∷ val E′.mir
+    ∷ val D′.mir ∷ val (tyInt w64) ∷ val tyBool ∷ val (ref-of erased imm) ∷ val (sliceTy (ref-of erased imm))
+    ∷ val tyUnit ∷ val (ref-of erased mut) ∷ val (sliceTy (ref-of erased mut)) ∷ [];
   body =
-      seq (assign (place 5 []) (rvOpd (copy (place 1 (field 1 ∷ [])))))
-      (seq (assign (place 6 []) (op2 ne (copy (place 5 [])) (int w64 8)))
-      (seq (cond (copy (place 6 [])) (seq (call #commands·refused (int w8 22 ∷ []) (place 0 [])) return) skip)
-      (lends 7 8
-      (seq (call #slots·load (copy (place 8 []) ∷ []) (place 3 []))
-      (seq (call core (copy (place 3 []) ∷ copy (place 2 []) ∷ []) (place 4 []))
-      (lends 10 11
-      (seq (call #slots·save (copy (place 11 []) ∷ copy (place 4 (field 1 ∷ [])) ∷ []) (place 9 []))
-      (seq (assign (place 0 []) (rvOpd (copy (place 4 (field 0 ∷ []))))) return))))))));
+    seq (assign (place 5 []) (rvOpd (copy (place 1 (field 1 ∷ [])))))
+    (seq (assign (place 6 []) (op2 ne (copy (place 5 [])) (int w64 8)))
+    (seq (cond (copy (place 6 [])) (seq (call #commands·refused (int w8 22 ∷ []) (place 0 [])) return) skip)
+    (lending 7 8
+    (seq (call #slots·load (copy (place 8 []) ∷ []) (place 3 []))
+    (seq (call core (copy (place 3 []) ∷ copy (place 2 []) ∷ []) (place 4 []))
+    (lending 10 11
+    (seq (call #slots·save (copy (place 11 []) ∷ copy (place 4 (field 1 ∷ [])) ∷ []) (place 9 []))
+    (seq (assign (place 0 []) (rvOpd (copy (place 4 (field 0 ∷ []))))) return))))))));
 }
 
 -- the clause of the core, and that of the function
@@ -119,10 +111,7 @@ module _ {M : Type 1} (𝓤 : URA M) (of : List ℕ → List Slot → After) whe
 
   module _ (H : Heap 𝓤) (A : Atoms 𝓤) where
     abbrev pub Core : Contract 𝓤
-    Core = tripleOf 𝓤 H A core.signature (closing 𝓤 H A core.ended core-clauses)
-
-abbrev stayed : Stays (f.ended .signature .params) (f.ended .kept)
-stayed = (gave-slice (0 ∷ []) tt (plain (λ _. T.the-row)), (stay-none-slice (1 ∷ []) tt (plain (λ _. u8)) yes, tt))
+    Core = Promise 𝓤 H A core.ended core-clauses
 
 module _ (of : List ℕ → List Slot → After) (refusal : (m : List ℕ) (xs : List Slot) → Holds (not (eqb (length xs) 8))
     → of m xs ≡ after (said 22 0 []) xs) {M : Type 1} (𝓤 : URA M) (H : Heap 𝓤) (A : Atoms 𝓤) (W : Given 𝓤 H A)
@@ -138,21 +127,20 @@ module _ (of : List ℕ → List Slot → After) (refusal : (m : List ℕ) (xs :
     abbrev at : Vals f.signature (κ, (κ′, tt))
     at = (slice b o ys ∷ [], (s′ ∷ [], tt))
 
-    abbrev y : walkOf 𝓤 H A f.ended stayed (clauses 𝓤 of) .Ghost
+    abbrev y : Promise 𝓤 H A f.ended (clauses 𝓤 of) .Ghost
     y = (((κ, (κ′, tt)), (q, (q′, tt)), tt, (slots-at b o ys γ, (m, tt)), at), tt)
 
-    abbrev Post : Val → SProp 𝓤
-    Post = walkOf 𝓤 H A f.ended stayed (clauses 𝓤 of) .post y
+    abbrev Ends : Val → SProp 𝓤
+    Ends = Promise 𝓤 H A f.ended (clauses 𝓤 of) .post y
 
     -- the end, at the answer r and the last slots zs
-    exits : (v : Val) (r : Sending) (zs : List Slot) → after (answerOf r) zs ≡ of (m .now) ys → length zs ≡ length ys
-        → Is O.the-row r (v ∷ [])
-        → ent 𝓤 (⋆ 𝓤 H A (‵ (flft κ′ q′) ∷ ‵ (flft κ q) ∷ ‵ (finally T.the-row γ zs) ∷ ‵ Msg ∷ [])) (Post v)
-    exits v r zs e l is =
-        qed W (‵ (flft κ′ q′) ∷ ‵ (flft κ q) ∷ ‵ (finally T.the-row γ zs) ∷ ‵ Msg ∷ []) ∵
-        suffices ! _ (ends-at 𝓤 H A f.ended stayed (clauses 𝓤 of) W y v r (zs, (tt, tt)) (l, (tt, tt))) $ says ! e $
+    exits : (v : Val) (r : Sending) (zs : List Slot) → after (answerOf r) zs ≡ of (m .now) ys → Is O.the-row r (v ∷ [])
+        → ent 𝓤 (⋆ 𝓤 H A (‵ (flft κ′ q′) ∷ ‵ (flft κ q) ∷ ‵ (Last γ ys zs) ∷ [])) (Ends v)
+    exits v r zs e is =
+        qed W (‵ (flft κ′ q′) ∷ ‵ (flft κ q) ∷ ‵ (Last γ ys zs) ∷ []) ∵
+        suffices ! _ (ends 𝓤 H A f.ended (clauses 𝓤 of) W y v r (zs, (tt, tt))) $ says ! e $
         nothing ! $ move ! (1 ∷ 0 ∷ []) $ join ! $ move ! (1 ∷ 0 ∷ []) $ join ! $ frame ! $
-        nothing ! $ move ! (2 ∷ 0 ∷ []) $ fjoin ! $ move ! (1 ∷ 0 ∷ []) $ fjoin ! $ frame ! $
+        nothing ! $ nothing ! $ fjoin ! $ move ! (1 ∷ 0 ∷ []) $ fjoin ! $ frame ! $
         owned ! O.the-row (Is O.the-row) (LL.makes O.the-type O′.the-plain 𝓤 H A) r _ is $ done !
 
     -- what the core's triple binds outside, and that the caller has what it asks
@@ -171,7 +159,7 @@ module _ (of : List ℕ → List Slot → After) (refusal : (m : List ℕ) (xs :
         (known : Callees 𝓤 H A mem run C) (core-known : Triple 𝓤 (C name) (Core 𝓤 of H A)) where
       walk : Room T.the-row (length ys) → Room u8 (length (m .now))
           → ent 𝓤 (onEntry 𝓤 H A f.signature (κ, (κ′, tt)) (q, (q′, tt)) (slots-at b o ys γ, (m, tt)) at)
-          (WpFn 𝓤 H C Λ (messaged name) (slice b o ys ∷ s′ ∷ []) Post)
+          (WpFn 𝓤 H C Λ (messaged name) (slice b o ys ∷ s′ ∷ []) Ends)
       walk room room′ =
           qed W ((‵ (flft κ q) ⊛ (‵ (flft κ′ q′) ⊛ ‵ ftrue))
           ∷ ‵ (owns (MutSlice (named 0) κ T.the-row ∷ ShrSlice (named 1) κ′ u8 ∷ []) (slots-at b o ys γ, (m, tt)) at) ∷ []) ∵
@@ -188,68 +176,51 @@ module _ (of : List ℕ → List Slot → After) (refusal : (m : List ℕ) (xs :
           -- nothing has touched the borrow, so its last slots are the first
           (λ other. refuses ! mem run fm (known .refused) (λ v r e is. land ! (from ! (stop !))
           (init ! 22 refl (LL.lawful O.the-type O′.the-laws 𝓤 H A W .typed r _ is .0)) $
-          returns-within ! Post refl (look ! 22 refl) $ leaves ! $ free1 ! $ free1 ! $ free1 ! $ free1 ! $ free1 ! $
+          returns-within ! Ends refl (look ! 22 refl) $ leaves ! $ free1 ! $ free1 ! $ free1 ! $ free1 ! $ free1 ! $
           held ! $ held ! $ free1 ! $ free1 ! $ held ! $ held ! $ held ! $ free0 ! $
-          move ! (2 ∷ []) $ use1 W (‵ (finally T.the-row γ ys)) (last-of 𝓤 H A mem run W κ γ b o ys) $
-          move ! (2 ∷ 1 ∷ []) $
-          by ! (exits v r ys (ap (λ (a : Answer). after a ys) e ∙ sym (refusal (m .now) ys other)) refl is)))
+          move ! (2 ∷ []) $ use1 W (‵ (Last γ ys ys)) (last-of 𝓤 H A mem run W κ γ b o ys) $ keep ! (2 ∷ 1 ∷ 0 ∷ []) $
+          by ! (exits v r ys (ap (λ (a : Answer). after a ys) e ∙ sym (refusal (m .now) ys other)) is)))
           (λ same. let eight : length ys ≡ 8 = eqb→eq (length ys) 8 (not-not (eqb (length ys) 8) same) in
-          assigns ! (addr ! (from ! (fld ! refl (hop ! (look-in ! 20 (sub ! 0 refl (whole !))) (stop !))))) (from ! (stop !))
-          (init ! 8 refl (tt, tt)) $
-          assigns ! (agg ! (and-then ! (load ! (from ! (stop !)) (look ! 8 refl))
-          (and-then ! (load ! (from ! (fld ! refl (stop !))) (look-in ! 20 (sub ! 1 refl (whole !)))) (no-more !))))
-          (from ! (stop !)) (init ! 6 refl (tt, (tt, (record { fits = room .0 }, tt)))) $
+          lends ! b o (length ys) refl refl (look-in ! 20 (sub ! 0 refl (whole !))) (init ! 8 refl (tt, tt))
+          (look ! 8 refl) (look-in ! 20 (sub ! 1 refl (whole !)))
+          (init ! 6 refl (tt, (tt, (record { fits = room .0 }, tt)))) $
           move ! (26 ∷ 24 ∷ []) $ loads ! mem run fm (known .loaded) κ q γ b o ys room eight
           (λ i j. and-then ! (load ! (from ! (stop !)) (look ! 8 refl)) (no-more !)) (λ w₁ e e₁ is₁. land ! (from ! (stop !))
           (init ! 19 refl (LL.lawful E.the-type E′.the-laws 𝓤 H A W .typed e _ is₁ .0)) $
           -- [what slots owns; the token; what the line owns; the locals; the message's token; what the message owns]
-          move ! (28 ∷ []) $
-          use1 W (‵ Msg ⊛ ‵ Msg) (shr-slice-copy 𝓤 H A W (named 1) κ′ u8 .twice m (s′ ∷ [])) $ split ! $
-          move ! (4 ∷ 0 ∷ 29 ∷ []) $ use3 W (raw (Core 𝓤 of H A .pre (to-core e w₁))) (goes-core e w₁) $
-          -- [what the core asks; what the message owns; what slots owns; the token; the locals]
+          move ! (2 ∷ 28 ∷ 27 ∷ []) $ use3 W (raw (Core 𝓤 of H A .pre (to-core e w₁))) (goes-core e w₁) $
+          -- [what the core asks; what slots owns; the token; the locals]
           answers ! fm core.ended (core-clauses 𝓤 of) core-known (to-core e w₁)
-          (and-then ! (load ! (from ! (stop !)) (look ! 20 refl))
-          (and-then ! (load ! (from ! (stop !)) (look ! 22 refl)) (no-more !))) (λ w₂ d ws.
+          (and-then ! (load ! (from ! (stop !)) (look ! 19 refl))
+          (and-then ! (load ! (from ! (stop !)) (look ! 21 refl)) (no-more !))) (λ w₂ d ws.
           heard ! (after (answerOf (d .answer)) (row (d .line)) ≡ of (m .now) (row e)) (λ e₂. drop ! $
           peeks ! D.the-row (Is D.the-row) (shows 𝓤 H A D.the-row) d (w₂ ∷ []) (λ is₂. drop ! $ land ! (from ! (stop !))
-          (init ! 18 refl (LL.lawful D.the-type D′.the-laws 𝓤 H A W .typed d _ is₂ .0)) $
-          rewrite ! 18 (λ (u : Val). ‵ (fat fullShare D′.mir (l .1 .1 .1 .1 .0) 0 u))
+          (init ! 17 refl (LL.lawful D.the-type D′.the-laws 𝓤 H A W .typed d _ is₂ .0)) $
+          rewrite ! 17 (λ (u : Val). ‵ (fat fullShare D′.mir (l .1 .1 .1 .1 .0) 0 u))
           (ap only (LL.tells D.the-type D′.the-laws d _ is₂)) refl $
           let parts = LL.owed D.the-type D′.the-laws d _ is₂ in
-          assigns ! (addr ! (from ! (fld ! refl (hop ! (look-in ! 24 (sub ! 0 refl (whole !))) (stop !))))) (from ! (stop !))
-          (init ! 6 refl (tt, tt)) $
-          assigns ! (agg ! (and-then ! (load ! (from ! (stop !)) (look ! 6 refl))
-          (and-then ! (load ! (from ! (fld ! refl (stop !))) (look-in ! 24 (sub ! 1 refl (whole !)))) (no-more !))))
-          (from ! (stop !)) (init ! 4 refl (tt, (tt, (record { fits = room .0 }, tt)))) $
-          move ! (2 ∷ 3 ∷ []) $ saves ! mem run fm (known .saved) κ q γ b o ys eight (d .line) (parts .1 .0)
-          (λ i. and-then ! (load ! (from ! (stop !)) (look ! 3 refl))
-          (and-then ! (load ! (from ! (fld ! refl (stop !))) (look-in ! 17 (sub ! 1 refl (whole !)))) (no-more !)))
-          (λ w₃ zs e₃ len is₃. land ! (from ! (stop !)) (init ! 8 refl (nothing-lawful 𝓤 H A W .typed tt _ is₃ .0)) $
-          -- [the last slots; the token; the message's token; what the message owns; the locals]
-          assigns ! (of-opd ! (load ! (from ! (fld ! refl (stop !))) (look-in ! 18 (sub ! 0 refl (whole !)))))
-          (from ! (stop !)) (init ! 26 refl (LL.lawful O.the-type O′.the-laws 𝓤 H A W .typed (d .answer) _ (parts .0) .0)) $
-          returns ! (look ! 26 refl) $ behind ! 4 $ leaves ! $ held ! $ held ! $ held ! $ held ! $ held ! $ held ! $
+          -- [the message's token; what slots owns; the token; the locals]
+          lends ! b o (length ys) refl refl (look-in ! 23 (sub ! 0 refl (whole !))) (init ! 5 refl (tt, tt))
+          (look ! 5 refl) (look-in ! 23 (sub ! 1 refl (whole !)))
+          (init ! 3 refl (tt, (tt, (record { fits = room .0 }, tt)))) $
+          move ! (1 ∷ 2 ∷ []) $ saves ! mem run fm (known .saved) κ q γ b o ys eight (d .line) (parts .1 .0)
+          (λ i. and-then ! (load ! (from ! (stop !)) (look ! 2 refl))
+          (and-then ! (load ! (from ! (fld ! refl (stop !))) (look-in ! 16 (sub ! 1 refl (whole !)))) (no-more !)))
+          (λ w₃ zs e₃ is₃. land ! (from ! (stop !)) (init ! 7 refl (nothing-lawful 𝓤 H A W .typed tt _ is₃ .0)) $
+          -- [what is said of the slots; the token; the message's token; the locals]
+          assigns ! (of-opd ! (load ! (from ! (fld ! refl (stop !))) (look-in ! 17 (sub ! 0 refl (whole !)))))
+          (from ! (stop !)) (init ! 25 refl (LL.lawful O.the-type O′.the-laws 𝓤 H A W .typed (d .answer) _ (parts .0) .0)) $
+          returns ! (look ! 25 refl) $ behind ! 3 $ leaves ! $ held ! $ held ! $ held ! $ held ! $ held ! $ held ! $
           held ! $ held ! $ held ! $ held ! $ held ! $ held ! $ free0 ! $
-          move ! (2 ∷ []) $ use1 W (‵ (flft κ′ q′) ⊛ ‵ ftrue) (id⊢ 𝓤 _) $ split ! $ keep ! (0 ∷ 3 ∷ 2 ∷ 4 ∷ []) $
-          by ! (exits _ (d .answer) zs (ap (after (answerOf (d .answer))) e₃ ∙ e₂ ∙ ap (of (m .now)) e₁) len
-          (parts .0)))))))))
-
-  walks : (name : Name) (C : Calls 𝓤 H) (Λ : Loops 𝓤 H) → FmC 𝓤 H (W .laws) C
-      → Callees 𝓤 H A mem run C → Triple 𝓤 (C name) (Core 𝓤 of H A)
-      → Walks 𝓤 H A f.ended stayed (WpFn 𝓤 H C Λ (messaged name)) (clauses 𝓤 of)
-  walks name C Λ fm known core-known =
-      walked 𝓤 H A f.ended stayed (clauses 𝓤 of) (WpFn 𝓤 H C Λ (messaged name)) (λ κs. (slice-vals, (slice-vals, tt)))
-      (λ κs. (mut-slice-tells (named 0) (κs .0) T.the-row, (shr-slice-tells (named 1) (κs .1 .0) u8, tt)))
-      (λ κs qs bounds a g are. via 𝓤 _ (fst∗ 𝓤 _ (emp 𝓤))
-      (walk (κs .0) (qs .0) (a .0 .ptr .0) (a .0 .ptr .1) (a .0 .name) (a .0 .now) (κs .1 .0) (qs .1 .0) (a .1 .0)
-      name C Λ fm known core-known (are .0 .0 .1) (are .1 .0 .0 .1)))
+          move ! (2 ∷ []) $ use1 W (‵ (flft κ′ q′) ⊛ ‵ ftrue) (id⊢ 𝓤 _) $ split ! $ keep ! (0 ∷ 3 ∷ 2 ∷ []) $
+          by ! (exits _ (d .answer) zs (ap (after (answerOf (d .answer))) e₃ ∙ e₂ ∙ ap (of (m .now)) e₁) (parts .0)))))))))
 
   pub meets : (name : Name) (𝓣 : Tables 𝓤 H) → Callees 𝓤 H A mem run (𝓣 .C) → Triple 𝓤 (𝓣 .C name) (Core 𝓤 of H A)
       → Meets 𝓤 H A f.signature (WpFn 𝓤 H (𝓣 .C) (𝓣 .Λ) (messaged name)) (closing 𝓤 H A f.ended (clauses 𝓤 of))
   meets name 𝓣 known core-known =
-      walk-meets 𝓤 H A f.ended stayed W (
-        goes-gave-slice 𝓤 H A W 2 0 tt (plain (λ _. T.the-row)),
-        (goes-none-slice 𝓤 H A W 2 (1 ∷ []) tt (plain (λ _. u8)) yes, tt),
-      ) (clauses 𝓤 of)
-      (WpFn 𝓤 H (𝓣 .C) (𝓣 .Λ) (messaged name)) (WpFn-mono 𝓤 H (W .laws) 𝓣 (messaged name))
-      (walks name (𝓣 .C) (𝓣 .Λ) (fmOf 𝓤 H (W .laws) 𝓣) known core-known)
+      meets-from 𝓤 H A f.ended (clauses 𝓤 of) (WpFn 𝓤 H (𝓣 .C) (𝓣 .Λ) (messaged name))
+      (λ κs. (slice-vals, (slice-vals, tt)))
+      (λ κs. (mut-slice-tells (named 0) (κs .0) T.the-row, (shr-slice-tells (named 1) (κs .1 .0) u8, tt)))
+      (λ κs qs bounds a g are. via 𝓤 _ (fst∗ 𝓤 _ (emp 𝓤))
+      (walk (κs .0) (qs .0) (a .0 .ptr .0) (a .0 .ptr .1) (a .0 .name) (a .0 .now) (κs .1 .0) (qs .1 .0) (a .1 .0)
+      name (𝓣 .C) (𝓣 .Λ) (fmOf 𝓤 H (W .laws) 𝓣) known core-known (are .0 .0 .1) (are .1 .0 .0 .1)))

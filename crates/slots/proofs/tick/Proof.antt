@@ -21,19 +21,18 @@ use types.Kit.{suffices, frame, done}
 use types.Part.{agg, whole, sub, look-in}
 use types.Run.{look, init, stop, hop, fld, from, load, lit, addr, of-opd, bin, and-then, no-more, assigns, land, returns}
 use types.Run.{returns-within, enter, params1, pass1, pass0, free1, free0}
-use sound.WpLaws.{FmC, fmOf, WpFn-mono}
+use sound.WpLaws.{FmC, fmOf}
 use denote.RattleType.{owns}
 use denote.Laws.{Is, shows}
 use denote.Plain.{nothing-lawful}
-use denote.Signature.{plain}
-use denote.Slice.{MutSlice, Room, finally, slice-vals, mut-slice-tells}
+use denote.Slice.{MutSlice, Room, slice-vals, mut-slice-tells}
 use denote.Steps.{only, owned, peeks, heard, nothing}
 use denote.Struct.Laws as LL
 use denote.Triple.Entry.{Vals, onEntry}
 use denote.Triple.Spec.{Meets, tripleOf}
 use denote.Triple.Statement.{Contract, Triple}
 use denote.Triple.Table.{entered, cited}
-use denote.Triple.Walked.{says, Stays, gave-slice, walkOf, goes-gave-slice, Walks, ends-at, walked, walk-meets}
+use denote.Triple.Walked.{says}
 use Rattle.commands.specs.declared.Slot.{Slot}
 use Rattle.commands.specs.declared.Eight.{Eight}
 use Rattle.commands.specs.declared.Sending.{Sending}
@@ -50,38 +49,36 @@ use Rattle.commands.proofs.tick as core
 use Rattle.commands.proofs.tick.Symbol as core-def
 use Rattle.commands.proofs.tick.Symbol.{name as #commands·tick}
 use Rattle.commands.proofs.tick.Met as core-thm
-use Rattle.slots.proofs.Calling.{answers, unless}
+use Rattle.slots.proofs.Calling.{Promise, ends, meets-from, answers, unless}
+use Rattle.slots.proofs.Elements.{slots-at, slice, Last, lends}
 use Rattle.slots.proofs.Locals.{enters, behind, leaves, held}
-use Rattle.slots.proofs.Thin.{Lent, slots-at, slice, Callees, callees, refuses, loads, saves, last-of, not-not}
+use Rattle.slots.proofs.Thin.{Callees, callees, refuses, loads, saves, last-of, not-not}
 use Rattle.slots.proofs.tick.Key.{name as #slots·tick}
 use Rattle.slots.proofs.tick as f
 use Rattle.slots.proofs.tick.Statement as stated
 use Rattle.slots.proofs.tick.Code as code
 
-abbrev stayed : Stays (f.ended .signature .params) (f.ended .kept)
-stayed = (gave-slice (0 ∷ []) tt (plain (λ _. T.the-row)), tt)
-
 module _ {M : Type 1} (𝓤 : URA M) (H : Heap 𝓤) (A : Atoms 𝓤) (W : Given 𝓤 H A) (mem : Memory → SProp 𝓤)
     (run : Routine → Fun 𝓤) where
   abbrev Core : Contract 𝓤
-  Core = tripleOf 𝓤 H A core.signature (core.spec 𝓤 H A mem run)
+  Core = Promise 𝓤 H A core.ended (core.clauses 𝓤 H A mem run)
 
   module _ (κ : Lft) (q : Share) (b o : ℕ) (γ : GName) (ys : List Slot) where
     abbrev at : Vals f.signature (κ, tt)
     at = (slice b o ys ∷ [], tt)
 
-    abbrev y : walkOf 𝓤 H A f.ended stayed (f.clauses 𝓤 H A mem run) .Ghost
+    abbrev y : Promise 𝓤 H A f.ended (f.clauses 𝓤 H A mem run) .Ghost
     y = (((κ, tt), (q, tt), tt, (slots-at b o ys γ, tt), at), tt)
 
-    abbrev Post : Val → SProp 𝓤
-    Post = walkOf 𝓤 H A f.ended stayed (f.clauses 𝓤 H A mem run) .post y
+    abbrev Ends : Val → SProp 𝓤
+    Ends = Promise 𝓤 H A f.ended (f.clauses 𝓤 H A mem run) .post y
 
     -- the end, at the answer r and the last slots zs
-    exits : (v : Val) (r : Sending) (zs : List Slot) → after (answerOf r) zs ≡ tickOf ys → length zs ≡ length ys
-        → Is O.the-row r (v ∷ []) → ent 𝓤 (⋆ 𝓤 H A (‵ (flft κ q) ∷ ‵ (finally T.the-row γ zs) ∷ [])) (Post v)
-    exits v r zs e l is =
-        qed W (‵ (flft κ q) ∷ ‵ (finally T.the-row γ zs) ∷ []) ∵
-        suffices ! _ (ends-at 𝓤 H A f.ended stayed (f.clauses 𝓤 H A mem run) W y v r (zs, tt) (l, tt)) $ says ! e $
+    exits : (v : Val) (r : Sending) (zs : List Slot) → after (answerOf r) zs ≡ tickOf ys → Is O.the-row r (v ∷ [])
+        → ent 𝓤 (⋆ 𝓤 H A (‵ (flft κ q) ∷ ‵ (Last γ ys zs) ∷ [])) (Ends v)
+    exits v r zs e is =
+        qed W (‵ (flft κ q) ∷ ‵ (Last γ ys zs) ∷ []) ∵
+        suffices ! _ (ends 𝓤 H A f.ended (f.clauses 𝓤 H A mem run) W y v r (zs, tt)) $ says ! e $
         nothing ! $ move ! (1 ∷ 0 ∷ []) $ join ! $ frame ! $ nothing ! $ move ! (1 ∷ 0 ∷ []) $ fjoin ! $ frame ! $
         owned ! O.the-row (Is O.the-row) (LL.makes O.the-type O′.the-plain 𝓤 H A) r _ is $ done !
 
@@ -97,7 +94,7 @@ module _ {M : Type 1} (𝓤 : URA M) (H : Heap 𝓤) (A : Atoms 𝓤) (W : Given
     module _ (C : Calls 𝓤 H) (Λ : Loops 𝓤 H) (fm : FmC 𝓤 H (W .laws) C) (known : Callees 𝓤 H A mem run C)
         (core-known : Triple 𝓤 (C #commands·tick) Core) where
       walk : Room T.the-row (length ys) → ent 𝓤 (onEntry 𝓤 H A f.signature (κ, tt) (q, tt) (slots-at b o ys γ, tt) at)
-          (WpFn 𝓤 H C Λ code.function (slice b o ys ∷ []) Post)
+          (WpFn 𝓤 H C Λ code.function (slice b o ys ∷ []) Ends)
       walk room =
           qed W ((‵ (flft κ q) ⊛ ‵ ftrue) ∷ ‵ (owns (MutSlice (named 0) κ T.the-row ∷ []) (slots-at b o ys γ, tt) at) ∷ []) ∵
           split ! $ move ! (2 ∷ []) $ fsplit ! $ keep ! (2 ∷ 0 ∷ []) $ enter ! C Λ code.function (slice b o ys ∷ []) _ $
@@ -111,17 +108,14 @@ module _ {M : Type 1} (𝓤 : URA M) (H : Heap 𝓤) (A : Atoms 𝓤) (W : Given
           -- nothing has touched the borrow, so its last slots are the first
           (λ other. refuses ! mem run fm (known .refused) (λ v r e is. land ! (from ! (stop !))
           (init ! 20 refl (LL.lawful O.the-type O′.the-laws 𝓤 H A W .typed r _ is .0)) $
-          returns-within ! Post refl (look ! 20 refl) $ leaves ! $ free1 ! $ free1 ! $ free1 ! $ free1 ! $ free1 ! $
+          returns-within ! Ends refl (look ! 20 refl) $ leaves ! $ free1 ! $ free1 ! $ free1 ! $ free1 ! $ free1 ! $
           held ! $ held ! $ free1 ! $ free1 ! $ held ! $ held ! $ free0 ! $
-          move ! (1 ∷ []) $ use1 W (‵ (finally T.the-row γ ys)) (last-of 𝓤 H A mem run W κ γ b o ys) $
-          move ! (1 ∷ []) $
-          by ! (exits v r ys (ap (λ (a : Answer). after a ys) e ∙ sym (tick-not-eight ys other)) refl is)))
+          move ! (1 ∷ []) $ use1 W (‵ (Last γ ys ys)) (last-of 𝓤 H A mem run W κ γ b o ys) $ move ! (1 ∷ []) $
+          by ! (exits v r ys (ap (λ (a : Answer). after a ys) e ∙ sym (tick-not-eight ys other)) is)))
           (λ same. let eight : length ys ≡ 8 = eqb→eq (length ys) 8 (not-not (eqb (length ys) 8) same) in
-          assigns ! (addr ! (from ! (fld ! refl (hop ! (look-in ! 18 (sub ! 0 refl (whole !))) (stop !))))) (from ! (stop !))
-          (init ! 8 refl (tt, tt)) $
-          assigns ! (agg ! (and-then ! (load ! (from ! (stop !)) (look ! 8 refl))
-          (and-then ! (load ! (from ! (fld ! refl (stop !))) (look-in ! 18 (sub ! 1 refl (whole !)))) (no-more !))))
-          (from ! (stop !)) (init ! 6 refl (tt, (tt, (record { fits = room .0 }, tt)))) $
+          lends ! b o (length ys) refl refl (look-in ! 18 (sub ! 0 refl (whole !))) (init ! 8 refl (tt, tt))
+          (look ! 8 refl) (look-in ! 18 (sub ! 1 refl (whole !)))
+          (init ! 6 refl (tt, (tt, (record { fits = room .0 }, tt)))) $
           move ! (23 ∷ 22 ∷ []) $ loads ! mem run fm (known .loaded) κ q γ b o ys room eight
           (λ i j. and-then ! (load ! (from ! (stop !)) (look ! 8 refl)) (no-more !)) (λ w₁ e e₁ is₁. land ! (from ! (stop !))
           (init ! 19 refl (LL.lawful E.the-type E′.the-laws 𝓤 H A W .typed e _ is₁ .0)) $
@@ -135,35 +129,28 @@ module _ {M : Type 1} (𝓤 : URA M) (H : Heap 𝓤) (A : Atoms 𝓤) (W : Given
           rewrite ! 16 (λ (u : Val). ‵ (fat fullShare D′.mir (l .1 .1 .1 .0) 0 u))
           (ap only (LL.tells D.the-type D′.the-laws d _ is₂)) refl $
           let parts = LL.owed D.the-type D′.the-laws d _ is₂ in
-          assigns ! (addr ! (from ! (fld ! refl (hop ! (look-in ! 20 (sub ! 0 refl (whole !))) (stop !))))) (from ! (stop !))
-          (init ! 4 refl (tt, tt)) $
-          assigns ! (agg ! (and-then ! (load ! (from ! (stop !)) (look ! 4 refl))
-          (and-then ! (load ! (from ! (fld ! refl (stop !))) (look-in ! 20 (sub ! 1 refl (whole !)))) (no-more !))))
-          (from ! (stop !)) (init ! 2 refl (tt, (tt, (record { fits = room .0 }, tt)))) $
+          lends ! b o (length ys) refl refl (look-in ! 20 (sub ! 0 refl (whole !))) (init ! 4 refl (tt, tt))
+          (look ! 4 refl) (look-in ! 20 (sub ! 1 refl (whole !)))
+          (init ! 2 refl (tt, (tt, (record { fits = room .0 }, tt)))) $
           saves ! mem run fm (known .saved) κ q γ b o ys eight (d .line) (parts .1 .0)
           (λ i. and-then ! (load ! (from ! (stop !)) (look ! 1 refl))
           (and-then ! (load ! (from ! (fld ! refl (stop !))) (look-in ! 15 (sub ! 1 refl (whole !)))) (no-more !)))
-          (λ w₃ zs e₃ len is₃. land ! (from ! (stop !)) (init ! 6 refl (nothing-lawful 𝓤 H A W .typed tt _ is₃ .0)) $
-          -- [the last slots; the token; the locals]
+          (λ w₃ zs e₃ is₃. land ! (from ! (stop !)) (init ! 6 refl (nothing-lawful 𝓤 H A W .typed tt _ is₃ .0)) $
+          -- [what is said of the slots; the token; the locals]
           assigns ! (of-opd ! (load ! (from ! (fld ! refl (stop !))) (look-in ! 16 (sub ! 0 refl (whole !)))))
           (from ! (stop !)) (init ! 22 refl (LL.lawful O.the-type O′.the-laws 𝓤 H A W .typed (d .answer) _ (parts .0) .0)) $
           returns ! (look ! 22 refl) $ behind ! 2 $ leaves ! $ held ! $ held ! $ held ! $ held ! $ held ! $ held ! $
           held ! $ held ! $ held ! $ held ! $ held ! $ free0 ! $ move ! (1 ∷ []) $
-          by ! (exits _ (d .answer) zs (ap (after (answerOf (d .answer))) e₃ ∙ e₂ ∙ ap tickOf e₁) len (parts .0)))))))))
-
-  walks : (C : Calls 𝓤 H) (Λ : Loops 𝓤 H) → FmC 𝓤 H (W .laws) C → Callees 𝓤 H A mem run C
-      → Triple 𝓤 (C #commands·tick) Core → Walks 𝓤 H A f.ended stayed (WpFn 𝓤 H C Λ code.function) (f.clauses 𝓤 H A mem run)
-  walks C Λ fm known core-known =
-      walked 𝓤 H A f.ended stayed (f.clauses 𝓤 H A mem run) (WpFn 𝓤 H C Λ code.function) (λ κs. (slice-vals, tt))
-      (λ κs. (mut-slice-tells (named 0) (κs .0) T.the-row, tt)) (λ κs qs bounds a g are. via 𝓤 _ (fst∗ 𝓤 _ (emp 𝓤))
-      (walk (κs .0) (qs .0) (a .0 .ptr .0) (a .0 .ptr .1) (a .0 .name) (a .0 .now) C Λ fm known core-known (are .0 .0 .1)))
+          by ! (exits _ (d .answer) zs (ap (after (answerOf (d .answer))) e₃ ∙ e₂ ∙ ap tickOf e₁) (parts .0)))))))))
 
   meets : (𝓣 : Tables 𝓤 H) → Callees 𝓤 H A mem run (𝓣 .C) → Triple 𝓤 (𝓣 .C #commands·tick) Core
       → Meets 𝓤 H A f.signature (WpFn 𝓤 H (𝓣 .C) (𝓣 .Λ) code.function) (f.spec 𝓤 H A mem run)
   meets 𝓣 known core-known =
-      walk-meets 𝓤 H A f.ended stayed W (goes-gave-slice 𝓤 H A W 1 0 tt (plain (λ _. T.the-row)), tt)
-      (f.clauses 𝓤 H A mem run) (WpFn 𝓤 H (𝓣 .C) (𝓣 .Λ) code.function) (WpFn-mono 𝓤 H (W .laws) 𝓣 code.function)
-      (walks (𝓣 .C) (𝓣 .Λ) (fmOf 𝓤 H (W .laws) 𝓣) known core-known)
+      meets-from 𝓤 H A f.ended (f.clauses 𝓤 H A mem run) (WpFn 𝓤 H (𝓣 .C) (𝓣 .Λ) code.function)
+      (λ κs. (slice-vals, tt)) (λ κs. (mut-slice-tells (named 0) (κs .0) T.the-row, tt))
+      (λ κs qs bounds a g are. via 𝓤 _ (fst∗ 𝓤 _ (emp 𝓤))
+      (walk (κs .0) (qs .0) (a .0 .ptr .0) (a .0 .ptr .1) (a .0 .name) (a .0 .now) (𝓣 .C) (𝓣 .Λ)
+      (fmOf 𝓤 H (W .laws) 𝓣) known core-known (are .0 .0 .1)))
 
 pub tick-spec : {M : Type 1} → stated.statement M
 unfolding code.routine tablesOf
@@ -172,5 +159,5 @@ tick-spec 𝓤 H 𝓜 𝓖 𝓡 =
     (tables 𝓤 H 𝓜 𝓡 code.env .C) (tables 𝓤 H 𝓜 𝓡 code.env .Λ) #slots·tick code.function (code.unfolded 𝓤 H 𝓜 𝓡)
     (meets 𝓤 H (𝓖 .A) (givenOf 𝓤 H 𝓜 𝓖) (𝓜 .mem) (𝓡 .run) (tablesOf 𝓤 H 𝓜 (tables 𝓤 H 𝓜 𝓡 code.env))
     (callees 𝓤 H 𝓜 𝓖 𝓡 code.env code.calls-commands·refused code.calls-slots·load code.calls-slots·save)
-    (cited 𝓤 H (tripleOf 𝓤 H (𝓖 .A) core.signature (core.spec 𝓤 H (𝓖 .A) (𝓜 .mem) (𝓡 .run))) 𝓜 𝓡 code.env
-    #commands·tick core-def.routine code.calls-commands·tick (core-thm.met 𝓤 H 𝓜 𝓖 𝓡)))
+    (cited 𝓤 H (Core 𝓤 H (𝓖 .A) (givenOf 𝓤 H 𝓜 𝓖) (𝓜 .mem) (𝓡 .run)) 𝓜 𝓡 code.env #commands·tick core-def.routine
+    code.calls-commands·tick (core-thm.met 𝓤 H 𝓜 𝓖 𝓡)))
