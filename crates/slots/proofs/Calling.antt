@@ -1,5 +1,5 @@
--- How a walk of MIR by hand begins, calls and ends, of a function that is lent slices and gives them up for good. Nothing
--- here is of this crate.
+-- How a walk of MIR by hand begins, calls and ends, of a function that is lent slices and gives them up for good.
+-- Nothing here is of this crate.
 --     meets-from   a function meets its contract, from a walk at its parameters' machine values, written out
 --     ends         how such a walk ends: at a result, and last values of which is said what the contract says
 --     answers      the callee's clause, its last values, its result and the tokens are at the head once it has returned
@@ -25,7 +25,7 @@ use types.Run.{Opd, Opds, first, branches, skips}
 use denote.RattleType.{RattleType, flat}
 use denote.Laws.{Are, Ises, Spells, valss, Tellss}
 use denote.Signature.{Signature, typeAt, typesAt}
-use denote.Steps.{said as told}
+use denote.Steps.{said}
 use denote.Triple.Entry.{Args, Vals, Res, alive, onEntry}
 use denote.Triple.Spec.{Back, Meets, tripleOf}
 use denote.Triple.Statement.{Contract, Triple}
@@ -72,12 +72,12 @@ module _ {M : Type 1} (𝓤 : URA M) (H : Heap 𝓤) (A : Atoms 𝓤) (t : Ended
       λ us. run (flat (Types κs) us) (Promise .post ((κs, y .0 .1, y .0 .2, y .0 .3, us), y .1)) in
       via 𝓤 (sep 𝓤 R (wand 𝓤 R (Q (y .0 .4))))
       (via 𝓤 (sep 𝓤 (wand 𝓤 R (Q (y .0 .4))) R)
-      (monoL 𝓤 R (told 𝓤 H A S κs (y .0 .1) (sp κs) (tl κs) (y .0 .3) (λ us. wand 𝓤 R (Q us)) (y .0 .4)
+      (monoL 𝓤 R (said 𝓤 H A S κs (y .0 .1) (sp κs) (tl κs) (y .0 .3) (λ us. wand 𝓤 R (Q us)) (y .0 .4)
       (λ are. wandI 𝓤 _ R _ (k κs (y .0 .1) (y .0 .2) (y .0 .3) (y .1) are))))
       (comm∗ 𝓤 (wand 𝓤 R (Q (y .0 .4))) R)) (apply∗ 𝓤 R (Q (y .0 .4)))
 
-module _ {M : Type 1} {𝓤 : URA M} {H : Heap 𝓤} {A : Atoms 𝓤} {K : Type 0} {W : Given 𝓤 H A} {Γ : List (Item 𝓤)} {E : Env 𝓤 H}
-    {C : Calls 𝓤 H} {Λ : Loops 𝓤 H} {q : Post 𝓤 H} where
+module _ {M : Type 1} {𝓤 : URA M} {H : Heap 𝓤} {A : Atoms 𝓤} {K : Type 0} {W : Given 𝓤 H A} {Γ : List (Item 𝓤)}
+    {E : Env 𝓤 H} {C : Calls 𝓤 H} {Λ : Loops 𝓤 H} {q : Post 𝓤 H} where
   pub answers : K → FmC 𝓤 H (W .laws) C → {f : Name} {xs : List Operand} {d : Place} {rest : Body} (t : Ended)
       (c : Clauses 𝓤 t) → Triple 𝓤 (C f) (Promise 𝓤 H A t c) → (y : Promise 𝓤 H A t c .Ghost)
       → Opds K W (raw (Promise 𝓤 H A t c .pre y) ∷ Γ) E xs (Promise 𝓤 H A t c .args y)
@@ -89,11 +89,12 @@ module _ {M : Type 1} {𝓤 : URA M} {H : Heap 𝓤} {A : Atoms 𝓤} {K : Type 
   answers k fm t c known y operands next =
       calls-at k fm (Promise 𝓤 H A t c) known y operands (λ v.
       use1 W (later (some (λ (r : Res (t .signature) (y .0 .0)).
-      (raw (alive 𝓤 H A (t .signature) (y .0 .0) (y .0 .1)) ⊛ ‵ (typeAt (t .signature .result) (y .0 .0) .own r (v ∷ [])))
+      (raw (alive 𝓤 H A (t .signature) (y .0 .0) (y .0 .1))
+      ⊛ ‵ (typeAt (t .signature .result) (y .0 .0) .own r (v ∷ [])))
       ⊛ some (λ (ws : Lasts t (y .0 .0) (y .0 .3)). ‵ (lasts t (y .0 .0) (y .0 .3) ws)
       ⊛ raw (c (y .0 .0) (y .0 .3) .ensures (y .1) r (atExit t (y .0 .0) (y .0 .3) ws)))))) (id⊢ 𝓤 _) $
-      await k tt $ pick k (λ r. split k $ split k $ move k (2 ∷ []) $ pick k (λ ws. split k $ move k (1 ∷ 0 ∷ 3 ∷ 2 ∷ []) $
-      next v r ws)))
+      await k tt $ pick k (λ r. split k $ split k $ move k (2 ∷ []) $
+      pick k (λ ws. split k $ move k (1 ∷ 0 ∷ 3 ∷ 2 ∷ []) $ next v r ws)))
 
   pub unless : K → {c : Operand} {arm rest : Body} {y : Bool} → Opd K W Γ E c (vbool y)
       → (Holds y → Seq K W Γ

@@ -18,17 +18,17 @@ use types.Kit.{Given, Item, ‵, ⋆, mean, pop, ++⊢, Goal, aim, allocs, frees
 use types.Run.{alloc1, alloc0, forget, free1}
 
 -- a block for each local
-abbrev pub Blocks : List Local → Type 0
+abbrev Blocks : List Local → Type 0
 Blocks [] = Unit {0}
 Blocks (l ∷ ls) = ℕ × Blocks ls
 
 module _ {M : Type 1} (𝓤 : URA M) (H : Heap 𝓤) where
-  abbrev pub envAt : (ls : List Local) → Blocks ls → Env 𝓤 H
+  abbrev envAt : (ls : List Local) → Blocks ls → Env 𝓤 H
   envAt [] l = []
   envAt (local τ h ∷ ls) l = (τ, l .0) ∷ envAt ls (l .1)
 
   -- as they lie once they are allocated, the last at the head
-  abbrev pub laid : (ls : List Local) → Blocks ls → List (Item 𝓤) → List (Item 𝓤)
+  abbrev laid : (ls : List Local) → Blocks ls → List (Item 𝓤) → List (Item 𝓤)
   laid [] l Γ = Γ
   laid (local τ h ∷ ls) l Γ = laid ls (l .1) (‵ (froom τ (l .0) 0) ∷ ‵ (fdies τ (l .0)) ∷ Γ)
 
@@ -42,7 +42,7 @@ module _ {M : Type 1} (𝓤 : URA M) (H : Heap 𝓤) where
       (assoc∗ 𝓤 X D (release 𝓤 H E P))))
 
   -- E turned round, before F
-  abbrev pub turned : Env 𝓤 H → Env 𝓤 H → Env 𝓤 H
+  abbrev turned : Env 𝓤 H → Env 𝓤 H → Env 𝓤 H
   turned [] F = F
   turned (e ∷ E) F = turned E (e ∷ F)
 
@@ -54,7 +54,7 @@ module _ {M : Type 1} (𝓤 : URA M) (H : Heap 𝓤) where
       (first-out E (sep 𝓤 (H .room (e .0) (e .1) 0) (H .dies (e .0) (e .1))) (release 𝓤 H F P))
 
   module _ (A : Atoms 𝓤) where
-    abbrev pub cycled : ℕ → List (Item 𝓤) → List (Item 𝓤)
+    abbrev cycled : ℕ → List (Item 𝓤) → List (Item 𝓤)
     cycled zero Γ = Γ
     cycled (suc n) [] = []
     cycled (suc n) (i ∷ Γ) = cycled n (Γ ++ (i ∷ []))

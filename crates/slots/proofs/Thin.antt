@@ -27,15 +27,14 @@ use ghost.Atoms.{Atoms, sem}
 use contract.Monad.{Fun}
 use contract.Running.{Running, GhostRules, tables}
 use sound.WpLaws.{FmC}
-use types.Kit.{Given, Item, ‵, raw, some, later, _⊛_, Post, runs, lands, Seq, _$_, _∵_, !, qed, by, move, keep, drop, use0, use1, use2}
-use types.Kit.{split, join, pick, fsplit, fjoin, frame, await, done}
+use types.Kit.{Given, Item, ‵, raw, some, later, _⊛_, Post, runs, lands, Seq, _$_, _∵_, !, qed, by, move, keep, drop}
+use types.Kit.{use0, use1, use2, split, join, pick, fsplit, fjoin, frame, await, done}
 use types.Run.{Opds, lit, and-then, no-more}
 use types.Tokens.{lft-new, lft-end}
 use denote.Laws.{Is, shows}
 use denote.Builtin.{u8, unit}
 use denote.Plain.{uint-makes}
-use denote.Ref.{RefT}
-use denote.Slice.{sliceVal, MutSlice, ShrSlice, Room}
+use denote.Slice.{MutSlice, ShrSlice, Room}
 use denote.Steps.{owned, nothing, heard, peeks}
 use denote.Struct.Laws as LL
 use denote.Triple.Spec.{tripleOf}
@@ -45,7 +44,7 @@ use denote.Triple.Walked.{says}
 use Rattle.commands.specs.declared.Slot.{Slot}
 use Rattle.commands.specs.declared.Eight.{Eight}
 use Rattle.commands.specs.declared.Sending.{Sending}
-use Rattle.commands.specs.Commands.{answerOf, row} 
+use Rattle.commands.specs.Commands.{answerOf, row}
 use Rattle.commands.specs.Commands.{says as said}
 use Rattle.commands.proofs.Slot as T
 use Rattle.commands.proofs.Eight as E
@@ -68,7 +67,7 @@ use Rattle.slots.proofs.save.Symbol.{name as #slots·save}
 use Rattle.slots.proofs.save.Met as save-thm
 
 -- what a `&κ mut [Slot]` owns
-abbrev pub Lent : Lft → GName → ℕ → ℕ → List Slot → Fml
+abbrev Lent : Lft → GName → ℕ → ℕ → List Slot → Fml
 Lent κ γ b o ys = MutSlice (named 0) κ T.the-row .own (slots-at b o ys γ) (slice b o ys ∷ [])
 
 -- the test of `!=` failed
@@ -77,13 +76,13 @@ not-not true h = tt
 not-not false h = absurd h
 
 module _ {M : Type 1} (𝓤 : URA M) (H : Heap 𝓤) (A : Atoms 𝓤) (mem : Memory → SProp 𝓤) (run : Routine → Fun 𝓤) where
-  abbrev pub Refused : Contract 𝓤
+  abbrev Refused : Contract 𝓤
   Refused = tripleOf 𝓤 H A refused′.signature (refused′.spec 𝓤 H A mem run)
 
-  abbrev pub Load : Contract 𝓤
+  abbrev Load : Contract 𝓤
   Load = tripleOf 𝓤 H A load′.signature (load′.spec 𝓤 H A mem run)
 
-  abbrev pub Save : Contract 𝓤
+  abbrev Save : Contract 𝓤
   Save = tripleOf 𝓤 H A save′.signature (save′.spec 𝓤 H A mem run)
 
   -- what each triple binds outside, and that the caller has what it asks
@@ -94,8 +93,16 @@ module _ {M : Type 1} (𝓤 : URA M) (H : Heap 𝓤) (A : Atoms 𝓤) (mem : Mem
   to-load ν δ b o ys = (((ν ∷ [], tt), (fullShare, tt), tt, (slots-at b o ys δ, tt), (slice b o ys ∷ [], tt)), tt)
 
   abbrev to-save : Lft → Share → GName → ℕ → ℕ → List Slot → Eight → Save .Ghost
-  to-save κ q γ b o ys e =
-      (((κ, tt), (q, tt), tt, (slots-at b o ys γ, (e, tt)), (slice b o ys ∷ [], (LL.vals E.the-type E′.the-laws e, tt))), tt)
+  to-save κ q γ b o ys e = (
+    (
+      (κ, tt),
+      (q, tt),
+      tt,
+      (slots-at b o ys γ, (e, tt)),
+      (slice b o ys ∷ [], (LL.vals E.the-type E′.the-laws e, tt)),
+    ),
+    tt,
+  )
 
   module _ (W : Given 𝓤 H A) where
     goes-refused : ent 𝓤 (emp 𝓤) (Refused .pre to-refused)
@@ -110,8 +117,8 @@ module _ {M : Type 1} (𝓤 : URA M) (H : Heap 𝓤) (A : Atoms 𝓤) (mem : Mem
       goes-load ν δ =
           qed W (‵ (flft (ν ∷ []) fullShare)
           ∷ ‵ (ShrSlice (named 0) (ν ∷ []) T.the-row .own (slots-at b o ys δ) (slice b o ys ∷ [])) ∷ []) ∵
-          says ! eight $ nothing ! $ move ! (1 ∷ 0 ∷ []) $ join ! $ frame ! $ nothing ! $ move ! (1 ∷ 0 ∷ []) $ fjoin ! $
-          done !
+          says ! eight $ nothing ! $ move ! (1 ∷ 0 ∷ []) $ join ! $ frame ! $ nothing ! $ move ! (1 ∷ 0 ∷ []) $
+          fjoin ! $ done !
 
       goes-save : (κ : Lft) (q : Share) (γ : GName) (e : Eight) → Is E.the-row e (LL.vals E.the-type E′.the-laws e)
           → ent 𝓤 (sep 𝓤 (A .lft κ q) (sem 𝓤 H A (Lent κ γ b o ys))) (Save .pre (to-save κ q γ b o ys e))
@@ -139,15 +146,15 @@ pub callees : {M : Type 1} (𝓤 : URA M) (H : Heap 𝓤) (𝓜 : Model 𝓤 H) 
     → Callees 𝓤 H (𝓖 .A) (𝓜 .mem) (𝓡 .run) (tables 𝓤 H 𝓜 𝓡 env .C)
 callees 𝓤 H 𝓜 𝓖 𝓡 env refused loaded saved = record {
   refused = cited 𝓤 H (Refused 𝓤 H (𝓖 .A) (𝓜 .mem) (𝓡 .run)) 𝓜 𝓡 env #commands·refused refused-def.routine refused
-    (refused-thm.met 𝓤 H 𝓜 𝓖 𝓡);
+      (refused-thm.met 𝓤 H 𝓜 𝓖 𝓡);
   loaded = cited 𝓤 H (Load 𝓤 H (𝓖 .A) (𝓜 .mem) (𝓡 .run)) 𝓜 𝓡 env #slots·load load-def.routine loaded
-    (load-thm.met 𝓤 H 𝓜 𝓖 𝓡);
+      (load-thm.met 𝓤 H 𝓜 𝓖 𝓡);
   saved = cited 𝓤 H (Save 𝓤 H (𝓖 .A) (𝓜 .mem) (𝓡 .run)) 𝓜 𝓡 env #slots·save save-def.routine saved
-    (save-thm.met 𝓤 H 𝓜 𝓖 𝓡);
+      (save-thm.met 𝓤 H 𝓜 𝓖 𝓡);
 }
 
-module _ {M : Type 1} {𝓤 : URA M} {H : Heap 𝓤} {A : Atoms 𝓤} {K : Type 0} {W : Given 𝓤 H A} {Γ : List (Item 𝓤)} {X : Env 𝓤 H}
-    {C : Calls 𝓤 H} {Λ : Loops 𝓤 H} {p : Post 𝓤 H} {f : Name} {d : Place} {rest : Body} where
+module _ {M : Type 1} {𝓤 : URA M} {H : Heap 𝓤} {A : Atoms 𝓤} {K : Type 0} {W : Given 𝓤 H A} {Γ : List (Item 𝓤)}
+    {X : Env 𝓤 H} {C : Calls 𝓤 H} {Λ : Loops 𝓤 H} {p : Post 𝓤 H} {f : Name} {d : Place} {rest : Body} where
   pub refuses : K → (mem : Memory → SProp 𝓤) (run : Routine → Fun 𝓤) → FmC 𝓤 H (W .laws) C
       → Triple 𝓤 (C f) (Refused 𝓤 H A mem run)
       → ((v : Val) (r : Sending) → answerOf r ≡ said 22 0 [] → Is O.the-row r (v ∷ [])

@@ -36,16 +36,19 @@ settled p q =
 module _ {M : Type 1} (𝓤 : URA M) (H : Heap 𝓤) (A : Atoms 𝓤) (mem : Memory → SProp 𝓤) (run : Routine → Fun 𝓤)
     (x y : Sending) where
   pub take-unique : (κs : Lfts 2) (a : Args take.signature κs) (e e′ : AtExit take.ended κs)
-      → ent 𝓤 (sep 𝓤 (take.clauses 𝓤 H A mem run κs a .ensures tt x e) (take.clauses 𝓤 H A mem run κs a .ensures tt y e′))
+      → ent 𝓤 (sep 𝓤 (take.clauses 𝓤 H A mem run κs a .ensures tt x e)
+      (take.clauses 𝓤 H A mem run κs a .ensures tt y e′))
       (fact 𝓤 ((x ≡ y) × (now (e .0) ≡ now (e′ .0))))
   take-unique κs a e e′ = together 𝓤 settled
 
   pub tick-unique : (κs : Lfts 1) (a : Args tick.signature κs) (e e′ : AtExit tick.ended κs)
-      → ent 𝓤 (sep 𝓤 (tick.clauses 𝓤 H A mem run κs a .ensures tt x e) (tick.clauses 𝓤 H A mem run κs a .ensures tt y e′))
+      → ent 𝓤 (sep 𝓤 (tick.clauses 𝓤 H A mem run κs a .ensures tt x e)
+      (tick.clauses 𝓤 H A mem run κs a .ensures tt y e′))
       (fact 𝓤 ((x ≡ y) × (now (e .0) ≡ now (e′ .0))))
   tick-unique κs a e e′ = together 𝓤 settled
 
   pub told-unique : (κs : Lfts 2) (a : Args told.signature κs) (e e′ : AtExit told.ended κs)
-      → ent 𝓤 (sep 𝓤 (told.clauses 𝓤 H A mem run κs a .ensures tt x e) (told.clauses 𝓤 H A mem run κs a .ensures tt y e′))
+      → ent 𝓤 (sep 𝓤 (told.clauses 𝓤 H A mem run κs a .ensures tt x e)
+      (told.clauses 𝓤 H A mem run κs a .ensures tt y e′))
       (fact 𝓤 ((x ≡ y) × (now (e .0) ≡ now (e′ .0))))
   told-unique κs a e e′ = together 𝓤 settled

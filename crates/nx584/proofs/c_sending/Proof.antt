@@ -1,3 +1,4 @@
+-- `c_sending` meets its contract: each number is the one that the answer has. Assumes nothing.
 use borrow.Author.Needs.{needs}
 use Rattle.nx584.proofs.c_sending.Statement.{statement}
 use Rattle.nx584.proofs.c_sending.Tie as tie

@@ -13,9 +13,8 @@ use contract.Lifetimes.{Lfts, Shares, toks}
 use contract.Monad.{Fun}
 use contract.Running.{givenOf, tables, tablesOf}
 use types.Kit.{Given, ‵, raw, _$_, _∵_, !, qed, by, move}
-use types.Part.{agg, whole, sub, look-in}
-use types.Run.{look, init, stop, hop, fld, from, load, addr, and-then, no-more, assigns, land, returns, enter, params1, pass1}
-use types.Run.{pass0, free0}
+use types.Part.{whole, sub, look-in}
+use types.Run.{look, init, stop, from, load, and-then, no-more, land, returns, enter, params1, pass1, pass0, free0}
 use sound.WpLaws.{FmC, fmOf}
 use denote.RattleType.{Valss, owns, flat}
 use denote.Ref.{now}
@@ -68,8 +67,8 @@ module _ {M : Type 1} (𝓤 : URA M) (H : Heap 𝓤) (A : Atoms 𝓤) where
           qed W (raw (toks 𝓤 A 1 κs qs) ∷ ‵ (owns (typesAt (f.ended .signature .params) κs) a vss) ∷ []) ∵
           enter ! C Λ code.function _ _ $
           enters ! (λ l. params1 ! $ pass1 ! (init ! 6 refl (tt, (tt, (record { fits = room .0 }, tt)))) $ pass0 ! $
-          lends ! (a .0 .ptr .0) (a .0 .ptr .1) (length (now (a .0))) refl refl (look-in ! 6 (sub ! 0 refl (whole !))) (init ! 2 refl (tt, tt))
-          (look ! 2 refl) (look-in ! 6 (sub ! 1 refl (whole !)))
+          lends ! (a .0 .ptr .0) (a .0 .ptr .1) (length (now (a .0))) refl refl (look-in ! 6 (sub ! 0 refl (whole !)))
+          (init ! 2 refl (tt, tt)) (look ! 2 refl) (look-in ! 6 (sub ! 1 refl (whole !)))
           (init ! 0 refl (tt, (tt, (record { fits = room .0 }, tt)))) $
           -- [the locals; the token; what slots owns]
           move ! (10 ∷ 11 ∷ []) $ hands ! (f.ended .signature .params) (f.ended .kept) holding fm known κs qs a vss

@@ -1,5 +1,5 @@
--- `slots::load` meets its contract: a walk of its MIR by hand. The slice's fractured borrow is looked into once, each of the
--- eight slots is copied whole into a local, and the struct is made of the eight locals. Assumes nothing.
+-- `slots::load` meets its contract: a walk of its MIR by hand. The slice's fractured borrow is looked into once, each
+-- of the eight slots is copied whole into a local, and the struct is made of the eight locals. Assumes nothing.
 use mathlib.Core.Path.{_≡_, refl}
 use Prim.Native.Nat.{ℕ}
 use mathlib.Core.List.{List, [], _∷_}
@@ -16,7 +16,8 @@ use prog.Wp.{Heap, Calls, Loops, WpFn, Tables}
 use ghost.Atoms.{Atoms}
 use contract.Monad.{Fun}
 use contract.Running.{givenOf, tables, tablesOf}
-use types.Kit.{Given, ‵, _⊛_, ⋆, _$_, _∵_, !, qed, by, move, keep, drop, split, join, fsplit, fjoin, suffices, frame, done}
+use types.Kit.{Given, ‵, _⊛_, ⋆, _$_, _∵_, !, qed, by, move, keep, drop, split, join, fsplit, fjoin, suffices, frame}
+use types.Kit.{done}
 use types.Part.{agg, whole, sub, look-in}
 use types.Run.{look, init, stop, from, load, and-then, no-more, assigns, returns, enter, params1, pass1, pass0, free0}
 use denote.RattleType.{owns}
@@ -25,7 +26,7 @@ use denote.Index.{looks-slice, shuts-slice}
 use denote.Slice.{ShrSlice, Room, slice-vals, shr-slice-tells}
 use denote.Steps.{owned, nothing}
 use denote.Struct.Laws as LL
-use denote.Triple.Entry.{Vals, onEntry}
+use denote.Triple.Entry.{onEntry}
 use denote.Triple.Spec.{Meets, tripleOf}
 use denote.Triple.Table.{entered}
 use denote.Triple.Walked.{says, needs}
@@ -105,14 +106,16 @@ module _ {M : Type 1} (𝓤 : URA M) (H : Heap 𝓤) (A : Atoms 𝓤) (W : Given
         shuts-slice ! tt T.the-row q′ ys b o $ move ! (1 ∷ []) $ drop ! $
         -- [the token; the locals]
         let is = LL.owes E.the-type E′.the-laws e (g0, (g1, (g2, (g3, (g4, (g5, (g6, (g7, tt)))))))) in
-        assigns ! (agg ! (and-then ! (load ! (from ! (stop !)) (look ! 29 refl)) (and-then ! (load ! (from ! (stop !)) (look ! 25 refl))
+        assigns ! (agg !
+        (and-then ! (load ! (from ! (stop !)) (look ! 29 refl)) (and-then ! (load ! (from ! (stop !)) (look ! 25 refl))
         (and-then ! (load ! (from ! (stop !)) (look ! 21 refl)) (and-then ! (load ! (from ! (stop !)) (look ! 17 refl))
         (and-then ! (load ! (from ! (stop !)) (look ! 13 refl)) (and-then ! (load ! (from ! (stop !)) (look ! 9 refl))
         (and-then ! (load ! (from ! (stop !)) (look ! 5 refl)) (and-then ! (load ! (from ! (stop !)) (look ! 1 refl))
         (no-more !)))))))))) (from ! (stop !))
         (init ! 35 refl (LL.lawful E.the-type E′.the-laws 𝓤 H A W .typed e _ is .0)) $
-        returns ! (look ! 35 refl) $ behind ! 1 $ leaves ! $ held ! $ held ! $ held ! $ held ! $ held ! $ held ! $ held ! $
-        held ! $ held ! $ held ! $ held ! $ held ! $ held ! $ held ! $ held ! $ held ! $ held ! $ held ! $ free0 ! $
+        returns ! (look ! 35 refl) $ behind ! 1 $ leaves ! $
+        held ! $ held ! $ held ! $ held ! $ held ! $ held ! $ held ! $ held ! $ held ! $
+        held ! $ held ! $ held ! $ held ! $ held ! $ held ! $ held ! $ held ! $ held ! $ free0 ! $
         by ! (exits _ is)))))))))))
 
 module _ {M : Type 1} (𝓤 : URA M) (H : Heap 𝓤) (A : Atoms 𝓤) (W : Given 𝓤 H A) (mem : Memory → SProp 𝓤)

@@ -1,5 +1,5 @@
--- `slots::save` meets its contract: a walk of its MIR by hand. The borrow is opened once, each of the eight slots is stored
--- whole, and the borrow is closed at the new slots. Assumes nothing.
+-- `slots::save` meets its contract: a walk of its MIR by hand. The borrow is opened once, each of the eight slots is
+-- stored whole, and the borrow is closed at the new slots. Assumes nothing.
 use mathlib.Core.Path.{_≡_, refl}
 use Prim.Native.Nat.{ℕ}
 use mathlib.Core.List.{List, [], _∷_}
@@ -16,10 +16,11 @@ use prog.Wp.{Heap, Calls, Loops, WpFn, Tables}
 use ghost.Atoms.{Atoms}
 use contract.Monad.{Fun}
 use contract.Running.{givenOf, tables, tablesOf}
-use types.Kit.{Given, ‵, _⊛_, ⋆, _$_, _∵_, !, qed, by, move, keep, drop, use1, split, join, fsplit, fjoin, feqI, suffices}
-use types.Kit.{frame, done}
+use types.Kit.{Given, ‵, _⊛_, ⋆, _$_, _∵_, !, qed, by, move, keep, drop, use1, split, join, fsplit, fjoin, feqI}
+use types.Kit.{suffices, frame, done}
 use types.Part.{whole, sub, look-in}
-use types.Run.{look, init, stop, fld, from, load, unit-lit, of-opd, assigns, returns, enter, params1, pass1, pass0, free0}
+use types.Run.{look, init, stop, fld, from, load, unit-lit, of-opd, assigns, returns, enter, params1, pass1, pass0}
+use types.Run.{free0}
 use denote.RattleType.{owns}
 use denote.Laws.{Is}
 use denote.Index.{opens-slice, closes-slice}
@@ -60,7 +61,8 @@ module _ {M : Type 1} (𝓤 : URA M) (H : Heap 𝓤) (A : Atoms 𝓤) (W : Given
   abbrev Walk : Calls 𝓤 H → Loops 𝓤 H → List Slot → Type 1
   Walk C Λ ys =
       Room T.the-row (length ys)
-      → ent 𝓤 (onEntry 𝓤 H A f.signature (κ, tt) (q, tt) (slots-at b o ys γ, (e, tt)) (slice b o ys ∷ [], (mach ∷ [], tt)))
+      → ent 𝓤 (onEntry 𝓤 H A f.signature (κ, tt) (q, tt) (slots-at b o ys γ, (e, tt))
+      (slice b o ys ∷ [], (mach ∷ [], tt)))
       (WpFn 𝓤 H C Λ code.function (slice b o ys ∷ mach ∷ []) (Ends ys))
 
   module _ (y0 y1 y2 y3 y4 y5 y6 y7 : Slot) where
@@ -107,16 +109,17 @@ module _ {M : Type 1} (𝓤 : URA M) (H : Heap 𝓤) (A : Atoms 𝓤) (W : Given
           (look-in ! 22 (sub ! 0 refl (whole !))) (init ! 12 refl (tt, tt)) (look ! 12 refl) (e .s3) (parts .1 .1 .1 .0)
           (load ! (from ! (fld ! refl (stop !))) (look-in ! 20 (sub ! 3 refl (whole !)))) $
           stores ! (e .s0 ∷ e .s1 ∷ e .s2 ∷ e .s3 ∷ y4 ∷ y5 ∷ y6 ∷ y7 ∷ []) b o 4 (lit< tt) tt refl
-          (look-in ! 22 (sub ! 0 refl (whole !))) (init ! 10 refl (tt, tt)) (look ! 10 refl) (e .s4) (parts .1 .1 .1 .1 .0)
-          (load ! (from ! (fld ! refl (stop !))) (look-in ! 20 (sub ! 4 refl (whole !)))) $
+          (look-in ! 22 (sub ! 0 refl (whole !))) (init ! 10 refl (tt, tt)) (look ! 10 refl) (e .s4)
+          (parts .1 .1 .1 .1 .0) (load ! (from ! (fld ! refl (stop !))) (look-in ! 20 (sub ! 4 refl (whole !)))) $
           stores ! (e .s0 ∷ e .s1 ∷ e .s2 ∷ e .s3 ∷ e .s4 ∷ y5 ∷ y6 ∷ y7 ∷ []) b o 5 (lit< tt) tt refl
-          (look-in ! 22 (sub ! 0 refl (whole !))) (init ! 8 refl (tt, tt)) (look ! 8 refl) (e .s5) (parts .1 .1 .1 .1 .1 .0)
-          (load ! (from ! (fld ! refl (stop !))) (look-in ! 20 (sub ! 5 refl (whole !)))) $
+          (look-in ! 22 (sub ! 0 refl (whole !))) (init ! 8 refl (tt, tt)) (look ! 8 refl) (e .s5)
+          (parts .1 .1 .1 .1 .1 .0) (load ! (from ! (fld ! refl (stop !))) (look-in ! 20 (sub ! 5 refl (whole !)))) $
           stores ! (e .s0 ∷ e .s1 ∷ e .s2 ∷ e .s3 ∷ e .s4 ∷ e .s5 ∷ y6 ∷ y7 ∷ []) b o 6 (lit< tt) tt refl
-          (look-in ! 22 (sub ! 0 refl (whole !))) (init ! 6 refl (tt, tt)) (look ! 6 refl) (e .s6) (parts .1 .1 .1 .1 .1 .1 .0)
-          (load ! (from ! (fld ! refl (stop !))) (look-in ! 20 (sub ! 6 refl (whole !)))) $
+          (look-in ! 22 (sub ! 0 refl (whole !))) (init ! 6 refl (tt, tt)) (look ! 6 refl) (e .s6)
+          (parts .1 .1 .1 .1 .1 .1 .0) (load ! (from ! (fld ! refl (stop !))) (look-in ! 20 (sub ! 6 refl (whole !)))) $
           stores ! (e .s0 ∷ e .s1 ∷ e .s2 ∷ e .s3 ∷ e .s4 ∷ e .s5 ∷ e .s6 ∷ y7 ∷ []) b o 7 (lit< tt) tt refl
-          (look-in ! 22 (sub ! 0 refl (whole !))) (init ! 4 refl (tt, tt)) (look ! 4 refl) (e .s7) (parts .1 .1 .1 .1 .1 .1 .1 .0)
+          (look-in ! 22 (sub ! 0 refl (whole !))) (init ! 4 refl (tt, tt)) (look ! 4 refl) (e .s7)
+          (parts .1 .1 .1 .1 .1 .1 .1 .0)
           (load ! (from ! (fld ! refl (stop !))) (look-in ! 20 (sub ! 7 refl (whole !)))) $
           closes-slice ! tt T.the-row ys (row e) refl b o $
           -- [obs; the borrow; the token; the locals]
@@ -134,7 +137,8 @@ module _ {M : Type 1} (𝓤 : URA M) (H : Heap 𝓤) (A : Atoms 𝓤) (W : Given
       (λ κs. (mut-slice-tells (named 0) (κs .0) T.the-row, (LL.tells E.the-type E′.the-laws, tt)))
       (λ κs qs bounds a g are. needs 𝓤 (length (a .0 .now) ≡ 8) _ (λ eight.
       of-eight (Walk 𝓤 H A W mem run (κs .0) (qs .0) (a .0 .ptr .0) (a .0 .ptr .1) (a .0 .name) (a .1 .0) (𝓣 .C) (𝓣 .Λ))
-      (λ y0 y1 y2 y3 y4 y5 y6 y7. walk 𝓤 H A W mem run (κs .0) (qs .0) (a .0 .ptr .0) (a .0 .ptr .1) (a .0 .name) (a .1 .0)
+      (λ y0 y1 y2 y3 y4 y5 y6 y7. walk 𝓤 H A W mem run (κs .0) (qs .0) (a .0 .ptr .0) (a .0 .ptr .1) (a .0 .name)
+      (a .1 .0)
       y0 y1 y2 y3 y4 y5 y6 y7 (are .1 .0) (𝓣 .C) (𝓣 .Λ)) (a .0 .now) eight (are .0 .0 .1)))
 
 pub save-spec : {M : Type 1} → stated.statement M

@@ -1,4 +1,4 @@
--- `slots::tick` meets its contract: a walk of its MIR by hand, the one of `Messaged` without a message. Assumes nothing.
+-- `slots::tick` meets its contract: a walk of its MIR by hand, that of `Messaged` without a message. Assumes nothing.
 use mathlib.Core.Path.{_≡_, refl, sym, _∙_, ap}
 use Prim.Native.Nat.{ℕ}
 use mathlib.Core.List.{List, [], _∷_}
@@ -18,8 +18,8 @@ use contract.Monad.{Fun}
 use contract.Running.{givenOf, tables, tablesOf}
 use types.Kit.{Given, ‵, raw, _⊛_, ⋆, _$_, _∵_, !, qed, by, move, keep, drop, use1, split, join, rewrite, fsplit, fjoin}
 use types.Kit.{suffices, frame, done}
-use types.Part.{agg, whole, sub, look-in}
-use types.Run.{look, init, stop, hop, fld, from, load, lit, addr, of-opd, bin, and-then, no-more, assigns, land, returns}
+use types.Part.{whole, sub, look-in}
+use types.Run.{look, init, stop, fld, from, load, lit, of-opd, bin, and-then, no-more, assigns, land, returns}
 use types.Run.{returns-within, enter, params1, pass1, pass0, free1, free0}
 use sound.WpLaws.{FmC, fmOf}
 use denote.RattleType.{owns}
@@ -96,7 +96,8 @@ module _ {M : Type 1} (𝓤 : URA M) (H : Heap 𝓤) (A : Atoms 𝓤) (W : Given
       walk : Room T.the-row (length ys) → ent 𝓤 (onEntry 𝓤 H A f.signature (κ, tt) (q, tt) (slots-at b o ys γ, tt) at)
           (WpFn 𝓤 H C Λ code.function (slice b o ys ∷ []) Ends)
       walk room =
-          qed W ((‵ (flft κ q) ⊛ ‵ ftrue) ∷ ‵ (owns (MutSlice (named 0) κ T.the-row ∷ []) (slots-at b o ys γ, tt) at) ∷ []) ∵
+          qed W ((‵ (flft κ q) ⊛ ‵ ftrue)
+          ∷ ‵ (owns (MutSlice (named 0) κ T.the-row ∷ []) (slots-at b o ys γ, tt) at) ∷ []) ∵
           split ! $ move ! (2 ∷ []) $ fsplit ! $ keep ! (2 ∷ 0 ∷ []) $ enter ! C Λ code.function (slice b o ys ∷ []) _ $
           -- [the token; what slots owns]
           enters ! (λ l. params1 ! $ pass1 ! (init ! 18 refl (tt, (tt, (record { fits = room .0 }, tt)))) $ pass0 ! $
@@ -117,8 +118,9 @@ module _ {M : Type 1} (𝓤 : URA M) (H : Heap 𝓤) (A : Atoms 𝓤) (W : Given
           (look ! 8 refl) (look-in ! 18 (sub ! 1 refl (whole !)))
           (init ! 6 refl (tt, (tt, (record { fits = room .0 }, tt)))) $
           move ! (23 ∷ 22 ∷ []) $ loads ! mem run fm (known .loaded) κ q γ b o ys room eight
-          (λ i j. and-then ! (load ! (from ! (stop !)) (look ! 8 refl)) (no-more !)) (λ w₁ e e₁ is₁. land ! (from ! (stop !))
-          (init ! 19 refl (LL.lawful E.the-type E′.the-laws 𝓤 H A W .typed e _ is₁ .0)) $
+          (λ i j. and-then ! (load ! (from ! (stop !)) (look ! 8 refl)) (no-more !))
+          (λ w₁ e e₁ is₁.
+          land ! (from ! (stop !)) (init ! 19 refl (LL.lawful E.the-type E′.the-laws 𝓤 H A W .typed e _ is₁ .0)) $
           -- [what slots owns; the token; what the line owns; the locals]
           move ! (2 ∷ []) $ use1 W (raw (Core .pre (to-core e w₁))) (goes-core e w₁) $
           answers ! fm core.ended (core.clauses 𝓤 H A mem run) core-known (to-core e w₁)
@@ -138,7 +140,8 @@ module _ {M : Type 1} (𝓤 : URA M) (H : Heap 𝓤) (A : Atoms 𝓤) (W : Given
           (λ w₃ zs e₃ is₃. land ! (from ! (stop !)) (init ! 6 refl (nothing-lawful 𝓤 H A W .typed tt _ is₃ .0)) $
           -- [what is said of the slots; the token; the locals]
           assigns ! (of-opd ! (load ! (from ! (fld ! refl (stop !))) (look-in ! 16 (sub ! 0 refl (whole !)))))
-          (from ! (stop !)) (init ! 22 refl (LL.lawful O.the-type O′.the-laws 𝓤 H A W .typed (d .answer) _ (parts .0) .0)) $
+          (from ! (stop !))
+          (init ! 22 refl (LL.lawful O.the-type O′.the-laws 𝓤 H A W .typed (d .answer) _ (parts .0) .0)) $
           returns ! (look ! 22 refl) $ behind ! 2 $ leaves ! $ held ! $ held ! $ held ! $ held ! $ held ! $ held ! $
           held ! $ held ! $ held ! $ held ! $ held ! $ free0 ! $ move ! (1 ∷ []) $
           by ! (exits _ (d .answer) zs (ap (after (answerOf (d .answer))) e₃ ∙ e₂ ∙ ap tickOf e₁) (parts .0)))))))))
