@@ -8,7 +8,8 @@ use lib.ListN.{replicate}
 use Rattle.standard.specs.Messages.{lengthFor, valuesOk, checkOf}
 use Rattle.commands.specs.Commands.{oneOfThem, flagged, those, every, usedFirst, holdsOne, sound, goesOut, takeOf}
 use Rattle.commands.specs.Commands.{tickOf, ends, toldOf}
-use Rattle.commands.specs.Runs.{Call, take, tick, called, empty, answers, isTick, ticksIn, lower, moved, placeAfter}
+use Rattle.commands.specs.Runs.{Call, take, tick, called, empty, answers, isTick, ticksIn, lower, moved}
+use Rattle.commands.specs.Runs.{placeAfter}
 use Rattle.commands.specs.Cards.{zoneSix, zoneSeven, cards, ranOf}
 
 -- two commands, and then so many ticks

@@ -1,7 +1,7 @@
 -- NOTHING IS LOST, AND ALL IN ORDER: what waits after a run is what waited and what was taken, less as many of the
 -- first as have ended. So from empty slots on the commands taken are those ended in each way and those that wait.
 -- Assumes nothing.
-use Prim.Native.Nat.{ℕ, _+_, _≤_}
+use Prim.Native.Nat.{ℕ, _+_}
 use native.Mathlib.Omega.{arith}
 use mathlib.Core.Path.{_≡_, refl, sym, ap, _∙_}
 use mathlib.Core.Bool.{true, false, cond, not}
