@@ -320,7 +320,7 @@ pub fn take(q: Eight, message: &[u8]) -> Called
         goes_out(Ended::Not, line)
     } else {
         Called {
-            answer: refused(0),
+            answer: silent(0, Ended::Not),
             line,
         }
     }
@@ -339,7 +339,7 @@ pub fn tick(q: Eight) -> Called
     let s = q.s0;
     if s.length == 0 {
         return Called {
-            answer: refused(0),
+            answer: silent(0, Ended::Not),
             line: q,
         };
     }
@@ -356,7 +356,7 @@ pub fn tick(q: Eight) -> Called
     let mut line = q;
     line.s0 = front;
     Called {
-        answer: refused(0),
+        answer: silent(0, Ended::Not),
         line,
     }
 }
@@ -399,7 +399,7 @@ fn hears(q: Eight, number: u8) -> Called
         return sends_again(q);
     }
     Called {
-        answer: refused(0),
+        answer: silent(0, Ended::Not),
         line: q,
     }
 }
@@ -423,7 +423,7 @@ pub fn told(q: Eight, message: &[u8]) -> Called
     }
     if q.s0.length == 0 {
         return Called {
-            answer: refused(0),
+            answer: silent(0, Ended::Not),
             line: q,
         };
     }

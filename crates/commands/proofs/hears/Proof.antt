@@ -57,8 +57,8 @@ returns-2 c =
     let s = call .before .before .before in
     rw (s .pre .1, found call ∙ test .before .if1 .left, eq-eqb _ _ (test .if2 .taken)) (c .sends-again .ensures)
 
-refused-requires : tie.Need-refused-requires
-refused-requires c κs = search needs
+silent-requires : tie.Need-silent-requires
+silent-requires c κs = search needs
 
 returns-3 : tie.Need-returns-3
 returns-3 c =
@@ -66,7 +66,7 @@ returns-3 c =
     let call = test .before .before in
     let s = call .before .before .before in
     rw (s .pre .1, found call ∙ test .before .if1 .left, ne-eqb _ _ (test .if2 .left))
-    (ap (λ (a : Answer). after a (row (s .args .q))) (c .refused .ensures))
+    (ap (λ (a : Answer). after a (row (s .args .q))) (c .silent .ensures))
 
 pub hears-spec : {M : Type 1} → statement M
 hears-spec =
@@ -79,5 +79,5 @@ hears-spec =
     returns
     sends-again-requires
     returns-2
-    refused-requires
+    silent-requires
     returns-3)

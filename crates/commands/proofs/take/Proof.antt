@@ -66,8 +66,8 @@ goes-out-requires c κs =
       omega (arith, few-bytes m (ok .good) (ok .one), ap (λ (s : Slot). s .length) front),
     )
 
-refused-requires-2 : tie.Need-refused-requires-2
-refused-requires-2 c κs = search needs
+silent-requires : tie.Need-silent-requires
+silent-requires c κs = search needs
 
 returns-2 : tie.Need-returns-2
 returns-2 c =
@@ -87,7 +87,7 @@ returns-3 c =
     let q = a .q in
     let some = some-line (q .s0) (drop 1 (row q)) (ne-eqb _ _ (test .if2 .left)) in
     rw (take-runs (a .message .now) (row q) (passes first), some)
-    (ap (λ (x : Answer). after x (row (call .place .result))) (c .refused2 .ensures)
+    (ap (λ (x : Answer). after x (row (call .place .result))) (c .silent .ensures)
     ∙ ap (after quiet) (call .place .ensures))
 
 pub take-spec : {M : Type 1} → statement M
@@ -99,6 +99,6 @@ take-spec =
     returns
     place-requires
     goes-out-requires
-    refused-requires-2
+    silent-requires
     returns-2
     returns-3)

@@ -30,8 +30,8 @@ returns c =
     ap (λ (a : Answer). after a xs) (c .refused .ensures)
     ∙ sym (tick-unsound xs (sym (call .sound .ensures) ∙ not-true _ (c .before .if1 .taken)))
 
-refused-requires-2 : tie.Need-refused-requires-2
-refused-requires-2 c κs = search needs
+silent-requires : tie.Need-silent-requires
+silent-requires c κs = search needs
 
 returns-2 : tie.Need-returns-2
 returns-2 c =
@@ -39,7 +39,7 @@ returns-2 c =
     let kept = test .before .before .before in
     let xs = row (kept .before .before .args .q) in
     rw (tick-runs xs (is-sound kept), eq-eqb _ _ (test .if2 .taken))
-    (ap (λ (a : Answer). after a xs) (c .refused2 .ensures))
+    (ap (λ (a : Answer). after a xs) (c .silent .ensures))
 
 sends-again-requires : tie.Need-sends-again-requires
 sends-again-requires c κs =
@@ -56,11 +56,11 @@ returns-3 c =
     let six : q .s0 .ticks + 1 ≡ 6 = omega (arith, front .early, sixth .if3 .taken) in
     rw (tick-runs (row q) (is-sound kept), waits, eq-eqb _ _ six) (c .sends-again .ensures)
 
-add-t10 : tie.Need-add-t10
-add-t10 c = search needs
+add-t11 : tie.Need-add-t11
+add-t11 c = search needs
 
-refused-requires-3 : tie.Need-refused-requires-3
-refused-requires-3 c κs = search needs
+silent-requires-2 : tie.Need-silent-requires-2
+silent-requires-2 c κs = search needs
 
 returns-4 : tie.Need-returns-4
 returns-4 c =
@@ -70,7 +70,7 @@ returns-4 c =
     let q = kept .before .before .args .q in
     let few : q .s0 .ticks + 1 ≡ 6 → ⊥ = λ e. omega (arith, sooner .if3 .left, e) in
     rw (tick-runs (row q) (is-sound kept), ne-eqb _ _ (test .if2 .left), ne-eqb _ _ few)
-    (ap (λ (a : Answer). after a (tickedOnce (q .s0) ∷ drop 1 (row q))) (c .refused3 .ensures))
+    (ap (λ (a : Answer). after a (tickedOnce (q .s0) ∷ drop 1 (row q))) (c .silent2 .ensures))
 
 pub tick-spec : {M : Type 1} → statement M
 tick-spec =
@@ -79,10 +79,10 @@ tick-spec =
     sound-requires
     refused-requires
     returns
-    refused-requires-2
+    silent-requires
     returns-2
     sends-again-requires
     returns-3
-    add-t10
-    refused-requires-3
+    add-t11
+    silent-requires-2
     returns-4)

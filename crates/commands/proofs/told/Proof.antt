@@ -51,8 +51,8 @@ returns-2 c =
     ap (λ (x : Answer). after x xs) (c .refused2 .ensures) ∙ ap (λ (n : ℕ). after (says n 0 []) xs) e
     ∙ sym (told-refused xs (is-sound (call .before)) (a .message .now) (λ z. c .before .if2 .taken (e ∙ z)))
 
-refused-requires-3 : tie.Need-refused-requires-3
-refused-requires-3 c κs = search needs
+silent-requires : tie.Need-silent-requires
+silent-requires c κs = search needs
 
 returns-3 : tie.Need-returns-3
 returns-3 c =
@@ -62,7 +62,7 @@ returns-3 c =
     let a = start first .args in
     let xs = row (a .q) in
     rw (told-runs xs (is-sound first) (a .message .now) (is-good good), eq-eqb _ _ (test .if3 .taken))
-    (ap (λ (x : Answer). after x xs) (c .refused3 .ensures))
+    (ap (λ (x : Answer). after x xs) (c .silent .ensures))
 
 shared-slice-read-hears : tie.Need-shared-slice-read-hears
 shared-slice-read-hears c = let test = c .before in good-length _ (is-good (test .before .before))
@@ -90,7 +90,7 @@ told-spec =
     check-requires
     refused-requires-2
     returns-2
-    refused-requires-3
+    silent-requires
     returns-3
     shared-slice-read-hears
     hears-requires
