@@ -55,7 +55,8 @@ returns-2 c =
     let test = c .before in
     let call = test .before .before in
     let s = call .before .before .before in
-    rw (s .pre .1, found call ∙ test .before .if1 .left, eq-eqb _ _ (test .if2 .taken)) (c .sends-again .ensures)
+    let negative : s .args .number ≡ 0x1E = omega (arith, test .if2 .taken) in
+    rw (s .pre .1, found call ∙ test .before .if1 .left, eq-eqb _ _ negative) (c .sends-again .ensures)
 
 silent-requires : tie.Need-silent-requires
 silent-requires c κs = search needs
