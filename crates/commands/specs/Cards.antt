@@ -25,7 +25,7 @@ ranOf c = map saysOf (answers (c .calls) empty)
 abbrev card : List Call → List Says → Card
 card calls said = record { calls = calls; said = said }
 
--- ---- messages: zone 6 bypassed, zone 7; the user code of user 1, with a PIN and without; its authority; the clock
+-- ---- messages: a bypass of zone 6 and of zone 7; the code of user 1, set with a PIN and without; its authority
 
 abbrev pub zoneSix : List ℕ
 zoneSix = 0x3F ∷ 0x05 ∷ []
