@@ -14,7 +14,7 @@ sys.dont_write_bytecode = True
 import lines  # noqa: E402
 from lines import FRAMINGS, PATIENCE, Host, Line, Trials, frame, until  # noqa: E402
 
-TICK = 0.04  # seconds, in place of a half: a command is given up after 24
+TICK = 0.1  # seconds, in place of a half: a command is given up after 24, which a gateway that gets little time must not miss
 REPLIES = (b"\x1d", b"\x1e", b"\x1f")
 ENDS = {0x1D: "acknowledged", 0x1C: "failed", 0x1F: "rejected", 0x12: "answered"}
 USER_INFORMATION = bytes((0x12, 1, 0x12, 0x34, 0x56, 0, 1))
@@ -263,7 +263,7 @@ class Commands(Trials):
         line = Line(os.path.join(home, "line"))
         gateway = Gateway(self.chance, line, "binary", commands, plans)
         given, far = os.pipe()
-        host = self.started(home, line, ["--commands", f"/dev/fd/{given}", "--tick", "40"], (given,))
+        host = self.started(home, line, ["--commands", f"/dev/fd/{given}", "--tick", str(round(1000 * TICK))], (given,))
         os.close(given)
         ends = []
         for k, message in enumerate(commands):
@@ -281,7 +281,7 @@ class Commands(Trials):
         fifo = os.path.join(home, "fifo")
         os.mkfifo(fifo)
         line = Line(os.path.join(home, "line"))
-        host = self.started(home, line, ["--wait", "20", "--tick", "10", "--commands", fifo])
+        host = self.started(home, line, ["--wait", "20", "--tick", str(round(500 * TICK)), "--commands", fifo])
         with open(fifo, "wb", buffering=0) as commands:
             line.close()
             away = host.said_often("went away", 1)
