@@ -1,27 +1,21 @@
 -- THE CARDS HOLD: each run says what document 02, No. 1, says, and a command can wait as long as it says. Assumes
 -- nothing.
-use Prim.Native.Nat.{ℕ}
 use mathlib.Core.Path.{_≡_, refl}
 use mathlib.Core.Option.{none, some}
-use mathlib.Core.List.{List, _∷_, map}
-use lib.ListN.{replicate}
+use mathlib.Core.List.{map}
 use Rattle.standard.specs.Messages.{lengthFor, valuesOk, checkOf}
 use Rattle.commands.specs.Commands.{oneOfThem, flagged, those, every, usedFirst, holdsOne, sound, goesOut, takeOf}
 use Rattle.commands.specs.Commands.{tickOf, ends, toldOf}
-use Rattle.commands.specs.Runs.{Call, take, tick, called, empty, answers, isTick, ticksIn, lower, moved}
+use Rattle.commands.specs.Runs.{called, empty, answers, isTick, ticksIn, lower, moved}
 use Rattle.commands.specs.Runs.{placeAfter}
-use Rattle.commands.specs.Cards.{zoneSix, zoneSeven, cards, ranOf}
-
--- two commands, and then so many ticks
-abbrev pub silent : ℕ → List Call
-silent n = take zoneSix ∷ take zoneSeven ∷ replicate n tick
+use Rattle.commands.specs.Cards.{cards, ranOf, twoThenTicks}
 
 -- what is only computed
 record Computed : Type 0 where
   said : map ranOf cards ≡ map (λ c. c .said) cards
-  ticks : ticksIn (silent 47) ≡ 47
-  waits : placeAfter (answers (silent 47) empty) (some 1) ≡ some 0
-  ended : placeAfter (answers (silent 48) empty) (some 1) ≡ none
+  ticks : ticksIn (twoThenTicks 47) ≡ 47
+  waits : placeAfter (answers (twoThenTicks 47) empty) (some 1) ≡ some 0
+  ended : placeAfter (answers (twoThenTicks 48) empty) (some 1) ≡ none
 
 computed : Computed
 unfolding lengthFor valuesOk checkOf oneOfThem flagged those every usedFirst holdsOne sound goesOut takeOf tickOf
@@ -32,8 +26,8 @@ pub bench : map ranOf cards ≡ map (λ c. c .said) cards
 bench = computed .said
 
 -- 24 × (k + 1) IS NOT TOO MANY: with one ahead of it, a command still waits after 47 ticks, and has ended after 48
-pub still-waits : (ticksIn (silent 47) ≡ 47) × (placeAfter (answers (silent 47) empty) (some 1) ≡ some 0)
+pub still-waits : (ticksIn (twoThenTicks 47) ≡ 47) × (placeAfter (answers (twoThenTicks 47) empty) (some 1) ≡ some 0)
 still-waits = (computed .ticks, computed .waits)
 
-pub has-ended : placeAfter (answers (silent 48) empty) (some 1) ≡ none
+pub has-ended : placeAfter (answers (twoThenTicks 48) empty) (some 1) ≡ none
 has-ended = computed .ended

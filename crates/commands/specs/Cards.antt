@@ -27,10 +27,10 @@ card calls said = record { calls = calls; said = said }
 
 -- ---- messages: a bypass of zone 6 and of zone 7; the code of user 1, set with a PIN and without; its authority
 
-abbrev pub zoneSix : List ℕ
+abbrev zoneSix : List ℕ
 zoneSix = 0x3F ∷ 0x05 ∷ []
 
-abbrev pub zoneSeven : List ℕ
+abbrev zoneSeven : List ℕ
 zoneSeven = 0x3F ∷ 0x06 ∷ []
 
 abbrev codeWithPin : List ℕ
@@ -102,3 +102,7 @@ cards =
     ∷ card (replicate 9 (take zoneSix) ++ (take (0x21 ∷ []) ∷ told (0x1D ∷ []) ∷ take zoneSeven ∷ take zoneSeven ∷ []))
     ((six ∷ replicate 7 nothing) ++ (refused 14 ∷ refused 13 ∷ (0, 0x1D, 0xBF ∷ 0x05 ∷ []) ∷ nothing ∷ refused 14 ∷ []))
     ∷ []
+
+-- two commands, and then so many ticks: a gateway that says nothing
+abbrev pub twoThenTicks : ℕ → List Call
+twoThenTicks n = take zoneSix ∷ take zoneSeven ∷ replicate n tick

@@ -25,11 +25,10 @@ use Rattle.standard.specs.Questions.{tableRefusal, partitionRefusal, partitionP
 use Rattle.standard.proofs.Questions.{whole-asked}
 use Rattle.reader.specs.Step.{stepOf}
 use Rattle.reader.specs.Read.{freshReader, scanOf, readOf}
-use Rattle.commands.specs.declared.Ended.{Ended}
 use Rattle.commands.specs.declared.Ended.the-variants.{Not, GivenUp, Acknowledged, Failed, Rejected, Replied}
 use Rattle.commands.specs.declared.Sending.{Sending}
 use Rattle.commands.specs.Commands.{endedNumber, answerOf}
-use Rattle.commands.proofs.Endings.{ended-one, answer-one}
+use Rattle.commands.proofs.Endings.{answer-one}
 use Rattle.nx584.specs.declared.CReader.{CReader}
 use Rattle.nx584.specs.declared.CReading.{CReading}
 use Rattle.nx584.specs.declared.CHearing.{CHearing}
@@ -267,9 +266,6 @@ rejected-is-1F = refl
 
 pub replied-is-12 : endedNumber Replied ≡ 0x12
 replied-is-12 = refl
-
-pub ended-once : (a b : Ended) → endedNumber a ≡ endedNumber b → a ≡ b
-ended-once a b e = ended-one e
 
 -- the numbers lose nothing: two answers with the same are one
 pub sending-once : (c : CSending) (r s : Sending) → cAnswer c ≡ answerOf r → cAnswer c ≡ answerOf s → r ≡ s
