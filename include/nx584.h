@@ -3,8 +3,8 @@
  *
  * From a release, x86-64 or 64-bit Arm Linux:
  *
- *     tar xzf pyttelow-0.2-aarch64-linux-gnu.tar.gz
- *     cd pyttelow-0.2-aarch64-linux-gnu
+ *     tar xzf pyttelow-0.3-aarch64-linux-gnu.tar.gz
+ *     cd pyttelow-0.3-aarch64-linux-gnu
  *     cc -std=c11 -O2 -Iinclude examples/host.c lib/libnx584.a -o unit
  *     ./unit --help
  *
@@ -47,11 +47,11 @@ extern "C" {
  * the numbers below. It grows when one of those changes, and only then. A program asks nx584_version()
  * first and stops where it is another number: it was compiled with one version of this file and linked
  * with an archive of another, and no answer would mean what it seems to. */
-#define NX584_VERSION 2
+#define NX584_VERSION 3
 
 /* ---- sizes */
 
-#define NX584_LONGEST 18           /* the longest message, its type byte included */
+#define NX584_LONGEST 255          /* the longest message that is read, its type byte included */
 #define NX584_BINARY_FRAME_MOST 41 /* the longest binary frame */
 #define NX584_FRAME_MOST 44        /* the longest frame in either framing */
 #define NX584_TABLE_BYTES 2132     /* a table; all zero is a fresh one */
@@ -79,7 +79,7 @@ extern "C" {
 #define NX584_CUT_SHORT 1    /* a start byte came before the frame had its verdict */
 #define NX584_NO_DIGIT 2     /* ASCII: no digit where one is due */
 #define NX584_NO_STOP 3      /* ASCII: no 0Dh where the stop is due */
-#define NX584_BAD_LENGTH 4   /* a length of 0 or above 18 */
+#define NX584_BAD_LENGTH 4   /* a length of 0; of a message that is handed in, also one above 255 */
 #define NX584_BAD_SUMS 5     /* the sums differ */
 #define NX584_UNKNOWN 6      /* the number is none of the 41 */
 #define NX584_WRONG_LENGTH 7 /* the length is not that of its number */
@@ -199,9 +199,9 @@ typedef struct {
 
 /* What the archive was compiled for; a machine with other sizes stops here. */
 typedef char nx584_has_size_t[sizeof(size_t) == 8 ? 1 : -1];
-typedef char nx584_has_reader[sizeof(nx584_reader) == 28 ? 1 : -1];
-typedef char nx584_has_reading[sizeof(nx584_reading) == 64 ? 1 : -1];
-typedef char nx584_has_hearing[sizeof(nx584_hearing) == 64 ? 1 : -1];
+typedef char nx584_has_reader[sizeof(nx584_reader) == 264 ? 1 : -1];
+typedef char nx584_has_reading[sizeof(nx584_reading) == 536 ? 1 : -1];
+typedef char nx584_has_hearing[sizeof(nx584_hearing) == 536 ? 1 : -1];
 typedef char nx584_has_written[sizeof(nx584_written) == 16 ? 1 : -1];
 typedef char nx584_has_group[sizeof(nx584_group) == 16 ? 1 : -1];
 typedef char nx584_has_overview[sizeof(nx584_overview) == 280 ? 1 : -1];

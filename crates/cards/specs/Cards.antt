@@ -65,7 +65,7 @@ cards =
     ∷ card Binary (0x7E ∷ 0x01 ∷ 0x7D ∷ 0x7E ∷ 0x01 ∷ 0x1D ∷ 0x1E ∷ 0x1F ∷ []) (1 ∷ 0 ∷ []) (0x1E ∷ 0 ∷ []) []
     -- 9: its two marked cases
     ∷ card Binary (0x7E ∷ 0x00 ∷ []) (4 ∷ []) (0x1E ∷ []) []
-    ∷ card Binary (0x7E ∷ 0x13 ∷ []) (4 ∷ []) (0x1E ∷ []) []
+    ∷ card Binary (0x7E ∷ 0x13 ∷ []) [] [] []
     ∷ []
 
 -- the heard zones of a table, with their short flags

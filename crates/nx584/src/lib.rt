@@ -30,7 +30,7 @@ ghost use Rattle.nx584.specs.Records.{cZone, cPartition, cSystem};
 ghost use Rattle.nx584.specs.Boundary.{framingFor, framingNumber, modeNumber, digitNumber, pendingFor, readerFor, cReader, soundC, lengthSaid, numbersSaid, padded, cRefused, cReading, withReply, cRead, CHears, CWrote, cGroup, cOverview};
 
 // NX584_VERSION: of the header that this library goes with.
-const VERSION: u32 = 2;
+const VERSION: u32 = 3;
 
 // NX584_LONGEST: the most bytes of a message.
 const LONGEST: usize = standard::LONGEST;

@@ -6,10 +6,9 @@ use lib.Dec.{eqb, leb}
 use lib.ListN.{length}
 use Rattle.standard.specs.Words.{byte, bit, firstOf}
 
--- "Read and written: 1 to 18"; the longest of the 41 messages has its own name, since a longer one can be read that
--- none of them is
+-- document 02, No. 2: "Lengths 1 to 255 are now read"
 abbrev pub longest : ℕ
-longest = 18
+longest = 255
 
 abbrev pub lengthOk : ℕ → Bool
 lengthOk n = leb 1 n && leb n longest

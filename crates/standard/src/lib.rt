@@ -6,8 +6,8 @@ ghost use Rattle.standard.specs.Framing.{startOf, twoDigits};
 ghost use Rattle.standard.specs.Framing.{digit as Framing·digit};
 ghost use Rattle.standard.specs.Replies.{replyNumber};
 
-// The longest message that is read: "1 to 18".
-pub const LONGEST: usize = 18;
+// The longest message that is read: "Lengths 1 to 255 are now read".
+pub const LONGEST: usize = 255;
 
 // The longest of the 41 messages, 03h.
 pub const LONGEST_KNOWN: usize = 18;
