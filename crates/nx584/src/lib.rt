@@ -580,7 +580,7 @@ pub extern "C" fn nx584_told(slots: &mut [Slot], message: &[u8]) -> CSending
 // To compare with NX584_VERSION.
 #[no_mangle]
 pub extern "C" fn nx584_version() -> u32
-    ensures { λ r. ⌜ r ≡ 2 ⌝ }
+    ensures { λ r. ⌜ r ≡ 3 ⌝ }
 {
     VERSION
 }
