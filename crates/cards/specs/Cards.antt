@@ -1,8 +1,9 @@
 -- Document 01, "Bench cards": those marked P, and what `standard` says of the bytes of each. Assumes nothing.
 use Prim.Native.Nat.{ℕ, suc, _+_}
 use mathlib.Core.Bool.{cond}
-use mathlib.Core.List.{List, [], _∷_, flatMap, map}
+use mathlib.Core.List.{List, [], _∷_, _++_, flatMap, map}
 use lib.Dec.{eqb}
+use lib.ListN.{replicate}
 use Rattle.standard.specs.declared.Framing.{Framing}
 use Rattle.standard.specs.declared.Framing.the-variants.{Binary, Ascii}
 use Rattle.standard.specs.Words.{upTo}
@@ -63,9 +64,15 @@ cards =
     ∷ card Binary (0x7E ∷ 0x7E ∷ 0x01 ∷ 0x1D ∷ 0x1E ∷ 0x1F ∷ []) (1 ∷ 0 ∷ []) (0x1E ∷ 0 ∷ []) []
     -- 8
     ∷ card Binary (0x7E ∷ 0x01 ∷ 0x7D ∷ 0x7E ∷ 0x01 ∷ 0x1D ∷ 0x1E ∷ 0x1F ∷ []) (1 ∷ 0 ∷ []) (0x1E ∷ 0 ∷ []) []
-    -- 9: its two marked cases
+    -- 9: its two marked cases, the last as document 02, No. 2 has it
     ∷ card Binary (0x7E ∷ 0x00 ∷ []) (4 ∷ []) (0x1E ∷ []) []
     ∷ card Binary (0x7E ∷ 0x13 ∷ []) [] [] []
+    -- and what can follow: "an unknown well-formed message rejected with 1Fh", of 13h bytes, of 7Eh, and of FFh
+    ∷ card Binary (0x7E ∷ 0x13 ∷ 0x22 ∷ replicate 18 0 ++ (0x35 ∷ 0x06 ∷ [])) (6 ∷ []) (0x1F ∷ []) []
+    ∷ card Binary (0x7E ∷ 0x7D ∷ 0x5E ∷ 0x22 ∷ replicate 125 0 ++ (0xA0 ∷ 0x8D ∷ [])) (6 ∷ []) (0x1F ∷ []) []
+    ∷ card Ascii
+    (0x0A ∷ 0x46 ∷ 0x46 ∷ 0x32 ∷ 0x32 ∷ replicate 508 0x30 ++ (0x32 ∷ 0x32 ∷ 0x30 ∷ 0x30 ∷ 0x0D ∷ []))
+    (6 ∷ []) (0x1F ∷ []) []
     ∷ []
 
 -- the heard zones of a table, with their short flags

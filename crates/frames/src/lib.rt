@@ -27,11 +27,11 @@ const MOST: usize = standard::LONGEST + 3;
 // So many bytes between frames are looked at together: as many as a vector register holds.
 const BLOCK: usize = 16;
 
-// "Read and written: 1 to 18."
+// "Lengths 1 to 255 are now read": all that a byte can be but 0.
 pub fn length_ok(n: u8) -> bool
     ensures { λ r. ⌜ r ≡ lengthOk n ⌝ }
 {
-    1 <= n && n as usize <= standard::LONGEST
+    n != 0
 }
 
 // ---- up to the next start

@@ -3,19 +3,21 @@
 -- Assumes nothing.
 use Prim.Native.Nat.{ℕ}
 use mathlib.Core.Path.{_≡_, refl, ap, _∙_}
-use mathlib.Core.Bool.{false}
+use mathlib.Core.Bool.{true, false}
 use mathlib.Core.List.{List, [], _∷_, _++_, flatMap}
+use lib.ListN.{length}
 use Rattle.standard.specs.declared.Framing.{Framing}
 use Rattle.standard.specs.Words.{byte}
-use Rattle.standard.specs.Messages.{among, checkOf}
+use Rattle.standard.specs.Messages.{lengthOk, lengthFor, among, checkOf}
 use Rattle.standard.specs.Framing.{startOf, frameOf}
 use Rattle.standard.specs.Judge.{Handed, decided, handing, judge}
 use Rattle.standard.specs.Stream.{handedOf}
 use Rattle.standard.specs.Replies.{replyOf}
 use Rattle.standard.specs.Table.{fresh, appliedTo, tableAfter}
 use Rattle.standard.proofs.Words.{map-append, flatMap-append}
+use Rattle.standard.proofs.Messages.{good-length, check-six}
 use Rattle.standard.proofs.Framings.{Bytes}
-use Rattle.standard.proofs.Stream.{handed-amid}
+use Rattle.standard.proofs.Stream.{handed-every}
 use Rattle.standard.proofs.Decided.{handed-amid-part}
 use Rattle.reader.specs.Read.{freshReader}
 use Rattle.reader.specs.Calls.{joined}
@@ -55,6 +57,26 @@ module _ (f : Framing) (p part q : List ℕ) (h : Handed) (reads : List (List �
   pub intact-any-caller : {heard : Heard} → Hearings (freshReader f) fresh reads heard → heard ≡ heardAmid f p h q
   intact-any-caller c = demand3-any-caller f c ∙ stream
 
+-- THE FRAME OF EVERY MESSAGE OF 1 TO 255 BYTES has the verdict of the message's own tests
+pub every-frame : (f : Framing) (p m q : List ℕ) (reads : List (List ℕ)) → lengthOk (length m) ≡ true → Bytes m
+    → joined reads ≡ p ++ (frameOf f m ++ q)
+    → hearAll (freshReader f) fresh reads ≡ heardAmid f p (handing (checkOf m) m) q
+every-frame f p m q reads h b j =
+    demand3 f reads
+    ∙ ap (streamHeard f) j
+    ∙ ap (heardAs fresh) (handed-every f p m q h b)
+    ∙ amid f p q (handing (checkOf m) m)
+
+-- AN UNKNOWN ONE, HOWEVER LONG, IS REJECTED WITH 1Fh: its verdict is 6, and the table stays
+pub unknown-rejected : (f : Framing) (p m q : List ℕ) (reads : List (List ℕ)) → lengthOk (length m) ≡ true → Bytes m
+    → lengthFor (byte 1 m) ≡ 0 → joined reads ≡ p ++ (frameOf f m ++ q)
+    → let before = heardBefore f p in
+    hearAll (freshReader f) fresh reads
+    ≡ thenHeard before (alsoHeard (handing 6 m ∷ []) 0x1F (heardAs (before .table) (handedOf f q)))
+unfolding tableAfter replyOf
+unknown-rejected f p m q reads h b unknown j =
+    every-frame f p m q reads h b j ∙ ap (λ (n : ℕ). heardAmid f p (handing n m) q) (check-six m h unknown)
+
 -- A MESSAGE'S FRAME, as it is written: the message goes into the table, and its type byte decides the reply
 pub intact-frame : (f : Framing) (p m q : List ℕ) (reads : List (List ℕ)) → checkOf m ≡ 0 → Bytes m
     → joined reads ≡ p ++ (frameOf f m ++ q)
@@ -64,7 +86,4 @@ pub intact-frame : (f : Framing) (p m q : List ℕ) (reads : List (List ℕ)) �
     (alsoHeard (handing 0 m ∷ []) (replyOf 0 (byte 1 m)) (heardAs (appliedTo (before .table) m) (handedOf f q)))
 unfolding tableAfter
 intact-frame f p m q reads h b j =
-    demand3 f reads
-    ∙ ap (streamHeard f) j
-    ∙ ap (heardAs fresh) (handed-amid f p m q h b)
-    ∙ amid f p q (handing 0 m)
+    every-frame f p m q reads (good-length m h) b j ∙ ap (λ (n : ℕ). heardAmid f p (handing n m) q) h

@@ -17,7 +17,7 @@ use Rattle.reader.specs.declared.Reader.{Reader}
 use Rattle.reader.specs.Step.{framingOf, beyondLength, pendingOk}
 use Rattle.reader.specs.Read.{soundReader}
 use Rattle.nx584.specs.declared.CReader.{CReader}
-use Rattle.nx584.specs.Boundary.{framingFor, framingNumber, modeNumber, digitNumber, modeFor, readerFor}
+use Rattle.nx584.specs.Boundary.{modeOk, framingFor, framingNumber, modeNumber, digitNumber, modeFor, readerFor}
 use Rattle.nx584.specs.Boundary.{cReader, soundC, settled}
 
 -- ---- framing and mode
@@ -49,7 +49,7 @@ reader-once r s e = sym (reader-back r) ∙ ap readerFor e ∙ reader-back s
 -- ---- soundness
 
 pending-same : (m : Mode) (rest : Bool) → (pendingOk m ≡ false → rest ≡ false)
-    → (leb (modeNumber m) 3 && (cond (eqb (modeNumber m) 3) (leb (digitNumber m) 15) true && rest)) ≡ rest
+    → (modeOk (modeNumber m) (digitNumber m) && rest) ≡ rest
 pending-same (Skipping f) rest h = refl
 pending-same (Open f) rest h = refl
 pending-same Escape rest h = refl

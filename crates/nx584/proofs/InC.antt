@@ -12,7 +12,7 @@ use borrow.Author.Tests.{eq-eqb, ne-eqb, le-leb, lt-leb}
 use Rattle.standard.specs.declared.Said.{Said}
 use Rattle.standard.specs.declared.Said.the-variants.{Silent, Gave}
 use Rattle.standard.specs.declared.Verdict.{Verdict}
-use Rattle.standard.specs.Messages.{longest}
+use Rattle.standard.specs.Messages.{longest, longestKnown}
 use Rattle.standard.specs.Judge.{Handed, handing, carriesType, verdictFor, verdictsIn, handedIn}
 use Rattle.standard.specs.Replies.{replyOf}
 use Rattle.standard.specs.Table.{tableBytes, tableAfter, appliedTo}
@@ -26,7 +26,7 @@ use Rattle.reader.proofs.State.Handing.{saidFor, one-verdict}
 use Rattle.host.specs.Hear.{replyTo}
 use Rattle.nx584.specs.declared.CReader.{CReader}
 use Rattle.nx584.specs.declared.CReading.{CReading}
-use Rattle.nx584.specs.Boundary.{readerFor, soundC, numberSaid, typeSaid, messageSaid, lengthSaid, numbersSaid}
+use Rattle.nx584.specs.Boundary.{readerFor, modeOk, soundC, numberSaid, typeSaid, messageSaid, lengthSaid, numbersSaid}
 use Rattle.nx584.specs.Boundary.{padded, cReader, cReading, withReply, cHearing, CGiven, cTook, cRefused, cRead}
 use Rattle.nx584.specs.Boundary.{cHeard, CHears}
 
@@ -41,9 +41,9 @@ no-type number = same-both {A = ℕ} (carriesType number) 0
 pub no-message : (number : ℕ) → messageSaid (handing number [] ∷ []) ≡ []
 no-message number = same-both {A = List ℕ} (eqb number 0) []
 
--- a message that is handed out is no longer than the longest
+-- a message that is handed out is no longer than the longest of the 41
 pub few-said : (said : Said) (hs : List Handed) → verdictsIn said ≡ map verdictFor hs → Short hs
-    → lengthSaid said ≤ longest
+    → lengthSaid said ≤ longestKnown
 few-said Silent hs e k = omega arith
 few-said (Gave v) [] e k = absurd (cons≢nil e)
 few-said (Gave v) (h ∷ hs) e k =
@@ -51,21 +51,13 @@ few-said (Gave v) (h ∷ hs) e k =
     omega arith
 
 -- soundness as the code asks it
-pub no-mode : (c : CReader) → 3 < c .mode → soundC c ≡ false
+pub no-mode : (c : CReader) → modeOk (c .mode) (c .digit) ≡ false → soundC c ≡ false
 unfolding soundC
-no-mode c h = rw (lt-leb (c .mode) 3 h)
+no-mode c h = rw h
 
-pub no-digit : (c : CReader) → c .mode ≡ 3 → 15 < c .digit → soundC c ≡ false
+pub a-mode : (c : CReader) → modeOk (c .mode) (c .digit) ≡ true → soundC c ≡ soundReader (readerFor c)
 unfolding soundC
-no-digit c e h = rw (e, lt-leb (c .digit) 15 h)
-
-pub a-digit : (c : CReader) → c .mode ≡ 3 → c .digit ≤ 15 → soundC c ≡ soundReader (readerFor c)
-unfolding soundC
-a-digit c e h = rw (le-leb (c .mode) 3 (omega arith), eq-eqb (c .mode) 3 e, le-leb (c .digit) 15 h)
-
-pub another-mode : (c : CReader) → c .mode ≤ 3 → (c .mode ≡ 3 → ⊥) → soundC c ≡ soundReader (readerFor c)
-unfolding soundC
-another-mode c h e = rw (le-leb (c .mode) 3 h, ne-eqb (c .mode) 3 e)
+a-mode c h = rw h
 
 -- an answer, from a verdict of code and a message in its array
 abbrev pub answered : CReader → ℕ → Verdict → List ℕ → CReading
@@ -94,10 +86,7 @@ gave-line reader used v bytes message h e =
 
 pub c-sound : (c : CReader) → soundC c ≡ true → soundReader (readerFor c) ≡ true
 unfolding soundC
-c-sound c h =
-    let digit = cond (eqb (c .mode) 3) (leb (c .digit) 15) true in
-    let first = both-true (leb (c .mode) 3) (digit && soundReader (readerFor c)) h in
-    both-true digit (soundReader (readerFor c)) (first .1) .1
+c-sound c h = both-true (modeOk (c .mode) (c .digit)) (soundReader (readerFor c)) h .1
 
 pub read-took : (c : CReader) (bs : List ℕ) → soundC c ≡ true → cRead c bs ≡ cTook (readOf (readerFor c) bs)
 unfolding cRead
@@ -118,11 +107,11 @@ heard-refused c t bs h = rw (ne-eqb (length t) tableBytes h)
 -- what a sound reader answers fits the numbers that C gets
 pub took-fits : (r : Reader) (bs : List ℕ) (reader : Reader) (said : Said) → soundReader r ≡ true
     → Gives reader said (readOf r bs)
-    → (reader .held ≤ 65535) × (lengthSaid said ≤ longest)
+    → (reader .held ≤ 65535) × (lengthSaid said ≤ longestKnown)
 took-fits r bs reader said h g =
     let held : reader .held ≡ readOf r bs .reader .held = ap (λ (x : Reader). x .held) (g .next) in
     let few : readOf r bs .reader .held ≤ longest + 3 = sound-held (readOf r bs .reader) (sound-read r bs h) in
-    (omega arith, few-said said (readOf r bs .said) (g .verdict) (read-short r bs h))
+    (omega arith, few-said said (readOf r bs .said) (g .verdict) (read-short r bs))
 
 -- an answer of code, in numbers
 pub took-c : (a : Given) (reader : Reader) (used : ℕ) (said : Said) → Gives reader said a → used ≡ a .used
@@ -131,13 +120,13 @@ took-c a reader used said g u = rw (g .handed, u, g .next)
 
 -- ---- what `nx584_hear` answers
 
-pub hear-refused : (c : CReader) (t bs : List ℕ) (number : ℕ) → cHeard c t bs ≡ cRefused c number → replyOf number 0 ≡ 0
+pub hear-refused : (c : CReader) (t bs : List ℕ) (number : ℕ) → cHeard c t bs ≡ cRefused c number
     → (number ≡ 0 → ⊥)
-    → CHears c t bs (withReply (cReading (cRefused c number)) 0) t
+    → CHears c t bs (cHearing (cRefused c number)) t
 unfolding tableAfter
-hear-refused c t bs number e r z =
+hear-refused c t bs number e z =
     record {
-      says = rw (e, no-type number, r);
+      says = ap cHearing (sym e);
       leaves = rw (e, ne-eqb number 0 z);
     }
 
@@ -172,10 +161,6 @@ stored-said t [] e = refl
 stored-said t (h ∷ []) e = rw (take-append-seam (h .message) _)
 stored-said t (h ∷ g ∷ hs) e = absurd (let z = ap length e in omega arith)
 
-short-said : (hs : List Handed) → Short hs → length (messageSaid hs) ≤ longest
-short-said [] k = omega arith
-short-said (h ∷ hs) k = k
-
 -- a read by numbers says at most one verdict, and its message fits
 pub stored-c : (c : CReader) (t bs : List ℕ)
     → storedBy t (cRead c bs .said) ≡ tableAfter t (cRead c bs .said)
@@ -186,11 +171,3 @@ stored-c c t bs = go (soundC c) refl
         ≡ tableAfter t (cRead c bs .said)
     go true h = rw (read-took c bs h) (stored-said t (readOf (readerFor c) bs .said) (one-verdict (readerFor c) bs))
     go false h = rw (read-refused c bs h) (stored-said t (handing 12 [] ∷ []) refl)
-
-pub c-short : (c : CReader) (bs : List ℕ) → length (messageSaid (cRead c bs .said)) ≤ longest
-c-short c bs = go (soundC c) refl
-  where
-    go : (b : Bool) → soundC c ≡ b → length (messageSaid (cRead c bs .said)) ≤ longest
-    go true h =
-        rw (read-took c bs h) (short-said (readOf (readerFor c) bs .said) (read-short (readerFor c) bs (c-sound c h)))
-    go false h = rw (read-refused c bs h) (omega arith)

@@ -6,3 +6,4 @@ pub mod Header
 pub mod Unique
 pub mod FreshReader
 pub mod Lent
+pub mod Scans

@@ -82,8 +82,11 @@ cReader r = record {
 
 -- a mode above 3 is unsound, and so is mode 3 with a digit above 15, in both framings; the rest is document 01's
 -- soundness
+abbrev pub modeOk : ℕ → ℕ → Bool
+modeOk mode digit = leb mode 3 && cond (eqb mode 3) (leb digit 15) true
+
 unfoldable pub soundC : CReader → Bool
-soundC c = leb (c .mode) 3 && (cond (eqb (c .mode) 3) (leb (c .digit) 15) true && soundReader (readerFor c))
+soundC c = modeOk (c .mode) (c .digit) && soundReader (readerFor c)
 
 -- the numbers that a call answers: framing 0 or 1, mode 2 in binary alone, mode 3 in ASCII alone, and a digit in mode 3
 -- alone

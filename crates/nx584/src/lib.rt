@@ -14,11 +14,11 @@ ghost use mathlib.Core.Bool.{cond};
 ghost use mathlib.Core.Option.{Option·getD};
 ghost use lib.Dec.{eqb};
 ghost use mathlib.Core.List.{List, [], _∷_, map};
-ghost use Prim.Native.Nat.{ℕ, _≤_};
+ghost use Prim.Native.Nat.{ℕ, _+_, _≤_};
 ghost use lib.Ieee.{nan};
 ghost use lib.ListN.{length, take};
 ghost use Rattle.standard.specs.Judge.{handedIn};
-ghost use Rattle.standard.specs.Messages.{longest};
+ghost use Rattle.standard.specs.Messages.{longest, longestKnown};
 ghost use Rattle.standard.specs.Replies.{replyOf};
 ghost use Rattle.standard.specs.Table.{Applied, appliedTo};
 ghost use Rattle.standard.specs.Overview.{seenOf, shareNumber, groupValues};
@@ -27,12 +27,13 @@ ghost use Rattle.reader.specs.Read.{freshReader};
 ghost use Rattle.commands.specs.Commands.{endedNumber, answerOf, after, takeOf, tickOf, toldOf};
 ghost use Rattle.nx584.specs.Line.{cAnswer};
 ghost use Rattle.nx584.specs.Records.{cZone, cPartition, cSystem};
-ghost use Rattle.nx584.specs.Boundary.{framingFor, framingNumber, modeNumber, digitNumber, pendingFor, readerFor, cReader, soundC, lengthSaid, numbersSaid, padded, cRefused, cReading, withReply, cRead, CHears, CWrote, cGroup, cOverview};
+ghost use Rattle.nx584.specs.Boundary.{framingFor, framingNumber, modeNumber, digitNumber, pendingFor, modeFor, cReader, modeOk, numbersSaid, padded, cRefused, cReading, cHearing, cRead, CHears, CWrote, cGroup, cOverview};
+ghost use Rattle.nx584.specs.Scan.{scannedAs, readerIn, CScans};
 
 // NX584_VERSION: of the header that this library goes with.
 const VERSION: u32 = 3;
 
-// NX584_LONGEST: the most bytes of a message.
+// NX584_LONGEST: the most bytes of a message that is read.
 const LONGEST: usize = standard::LONGEST;
 
 // The most bytes that a reader holds: the length, the longest message and two sums.
@@ -58,6 +59,18 @@ pub struct CReading {
     pub type_byte: u8,
     pub length: u8,
     pub message: [u8; LONGEST],
+}
+
+// What a read answers but for the frame's bytes: the next reader's numbers, and the verdict's.
+struct CScanned {
+    framing: u8,
+    mode: u8,
+    digit: u8,
+    held: u16,
+    used: usize,
+    verdict: u8,
+    type_byte: u8,
+    length: u8,
 }
 
 // The writer's answer.
@@ -205,20 +218,13 @@ fn pending_for(framing: Framing, mode: u8, digit: u8) -> Mode
     }
 }
 
-fn reader_for(c: CReader) -> Reader
-    ensures { λ r. ⌜ r ≡ readerFor c ⌝ }
+fn mode_for(framing: Framing, mode: u8, digit: u8) -> Mode
+    ensures { λ r. ⌜ r ≡ modeFor framing mode digit ⌝ }
 {
-    let framing = framing_for(c.framing);
-    let bytes = c.bytes;
-    let mode = if c.mode == 0 {
+    if mode == 0 {
         Mode::Skipping(framing)
     } else {
-        pending_for(framing, c.mode, c.digit)
-    };
-    Reader {
-        mode: mode,
-        held: c.held as usize,
-        bytes: bytes,
+        pending_for(framing, mode, digit)
     }
 }
 
@@ -260,43 +266,45 @@ fn c_group(group: Group) -> CGroup
     }
 }
 
-// A message in its array, zero beyond its length.
+// A good message in its array, zero beyond its length. It is one of the 41, so that no more of the
+// array is copied than the longest of them has: the rest is zero from the beginning.
 fn in_array(message: &[u8]) -> [u8; LONGEST]
-    requires { ⌜ length (now message) ≤ longest ⌝ }
+    requires { ⌜ length (now message) ≤ longestKnown ⌝ }
     ensures { λ r. ⌜ r ≡ padded (now (message .entry)) ⌝ }
 {
+    let mut short = [0u8; standard::LONGEST_KNOWN];
+    bytes::copy(message, &mut short);
     let mut array = [0u8; LONGEST];
-    bytes::copy(message, &mut array);
+    bytes::copy(&short, &mut array);
     array
 }
 
-// Document 01's soundness, after which a mode that the framing does not have reads as mode 1.
-fn sound_c(c: CReader, reader: Reader) -> bool
-    requires { ⌜ reader ≡ readerFor c ⌝ }
-    ensures { λ r. ⌜ r ≡ soundC c ⌝ }
+// Whether the numbers are a mode's: the rest of the soundness is document 01's.
+fn mode_ok(mode: u8, digit: u8) -> bool
+    ensures { λ r. ⌜ r ≡ modeOk mode digit ⌝ }
 {
-    if 3 < c.mode {
+    if 3 < mode {
         return false;
     }
-    if c.mode == 3 {
-        if 15 < c.digit {
-            return false;
-        }
+    if mode == 3 {
+        return digit <= 15;
     }
-    reader.sound()
+    true
 }
 
-// A refusal: the reader as it was handed in.
-fn refused(c: CReader, number: u8) -> CReading
-    ensures { λ r. ⌜ r ≡ cReading (cRefused c number) ⌝ }
+// A state that is not sound: 12, and its numbers as they were.
+fn not_sound(framing: u8, mode: u8, digit: u8, held: u16) -> CScanned
+    ensures { λ r. ⌜ r ≡ scannedAs framing mode digit held 12 ⌝ }
 {
-    CReading {
-        reader: c,
+    CScanned {
+        framing,
+        mode,
+        digit,
+        held,
         used: 0,
-        verdict: number,
+        verdict: 12,
         type_byte: 0,
         length: 0,
-        message: [0u8; LONGEST],
     }
 }
 
@@ -314,46 +322,68 @@ fn numbers(said: Said) -> Verdict
     }
 }
 
-// What was read, in numbers. The message is copied from the frame before the frame is: the compiler leaves no copy between.
-fn took(reader: Reader, used: usize, verdict: Verdict, message: [u8; LONGEST]) -> CReading
-    requires { ⌜ reader .held ≤ 65535 ⌝ }
-    ensures { λ r. ⌜ r ≡ record { reader = cReader reader; used = used; verdict = verdict .number; «type_byte» = verdict .«type_byte»; length = verdict .length; message = message } ⌝ }
+// A read by numbers, with the frame's bytes in lent memory: a reader is many bytes, and each copy of
+// it would cost a call of one byte as much as the byte.
+fn scan_c(framing: u8, mode: u8, digit: u8, held: u16, frame: &mut [u8], bytes: &[u8]) -> CScanned
+    requires { ⌜ length (now frame) ≡ longest + 3 ⌝ }
+    ensures { λ r. ⌜ CScans (record { framing = framing; mode = mode; digit = digit; held = held; bytes = now (frame .entry) }) (now (bytes .entry)) r (now (frame .exit)) ⌝ }
 {
-    CReading {
-        reader: c_reader(reader),
-        used,
+    if !mode_ok(mode, digit) {
+        return not_sound(framing, mode, digit, held);
+    }
+    let from = mode_for(framing_for(framing), mode, digit);
+    let scanned = reader::scan(from, held as usize, frame, bytes);
+    let next = scanned.mode;
+    let said = scanned.said;
+    let verdict = numbers(said);
+    if verdict.number == 12 {
+        return not_sound(framing, mode, digit, held);
+    }
+    CScanned {
+        framing: framing_of(next),
+        mode: mode_number(next),
+        digit: digit_number(next),
+        held: scanned.held as u16,
+        used: scanned.used,
         verdict: verdict.number,
         type_byte: verdict.type_byte,
         length: verdict.length,
-        message,
     }
 }
 
-fn with_reply(reading: CReading, reply: u8) -> CHearing
-    ensures { λ r. ⌜ r ≡ withReply reading reply ⌝ }
+fn reader_in(scanned: CScanned, bytes: [u8; MOST]) -> CReader
+    ensures { λ r. ⌜ r ≡ readerIn scanned bytes ⌝ }
 {
-    let reader = reading.reader;
-    let message = reading.message;
+    CReader {
+        framing: scanned.framing,
+        mode: scanned.mode,
+        digit: scanned.digit,
+        held: scanned.held,
+        bytes,
+    }
+}
+
+// 11: the reader as it was handed in, and no reply.
+fn no_table(reader: CReader) -> CHearing
+    ensures { λ r. ⌜ r ≡ cHearing (cRefused reader 11) ⌝ }
+{
     CHearing {
         reader,
-        used: reading.used,
-        verdict: reading.verdict,
-        type_byte: reading.type_byte,
-        reply,
-        length: reading.length,
-        message,
+        used: 0,
+        verdict: 11,
+        type_byte: 0,
+        reply: 0,
+        length: 0,
+        message: [0u8; LONGEST],
     }
 }
 
 // A good message goes into the table.
-fn store(table: &mut [u8], reading: CReading)
-    requires { ⌜ reading .length ≤ longest ⌝ }
-    ensures { λ _. ⌜ now (table .exit) ≡ cond (eqb (reading .verdict) 0) (appliedTo (now (table .entry)) (take (reading .length) (reading .message))) (now (table .entry)) ⌝ }
+fn store(table: &mut [u8], verdict: u8, message: &[u8])
+    ensures { λ _. ⌜ now (table .exit) ≡ cond (eqb verdict 0) (appliedTo (now (table .entry)) (now (message .entry))) (now (table .entry)) ⌝ }
 {
-    let message = reading.message;
-    let n = reading.length as usize;
-    if reading.verdict == 0 {
-        table::store(table, &message[..n]);
+    if verdict == 0 {
+        table::store(table, message);
     }
 }
 
@@ -370,24 +400,25 @@ pub extern "C" fn nx584_fresh(framing: u8) -> CReader
 pub extern "C" fn nx584_read(reader: CReader, bytes: &[u8]) -> CReading
     ensures { λ r. ⌜ r ≡ cReading (cRead reader (now (bytes .entry))) ⌝ }
 {
-    let start = reader_for(reader);
-    if !sound_c(reader, start) {
-        return refused(reader, 12);
-    }
-    let mode = start.mode;
-    let mut frame = start.bytes;
-    let scanned = reader::scan(mode, start.held, &mut frame, bytes);
-    let next = scanned.mode;
-    let said = scanned.said;
-    let verdict = numbers(said);
-    let end = verdict.length as usize + 1;
+    let mut frame = reader.bytes;
+    let scanned = scan_c(
+        reader.framing,
+        reader.mode,
+        reader.digit,
+        reader.held,
+        &mut frame,
+        bytes,
+    );
+    let end = scanned.length as usize + 1;
     let message = in_array(&frame[1..end]);
-    let after = Reader {
-        mode: next,
-        held: scanned.held,
-        bytes: frame,
-    };
-    took(after, scanned.used, verdict, message)
+    CReading {
+        reader: reader_in(scanned, frame),
+        used: scanned.used,
+        verdict: scanned.verdict,
+        type_byte: scanned.type_byte,
+        length: scanned.length,
+        message,
+    }
 }
 
 // A read of one byte.
@@ -463,11 +494,29 @@ pub extern "C" fn nx584_hear(reader: CReader, table: &mut [u8], bytes: &[u8]) ->
     ensures { λ r. ⌜ CHears reader (now (table .entry)) (now (bytes .entry)) r (now (table .exit)) ⌝ }
 {
     if table::refusal(table) != 0 {
-        return with_reply(refused(reader, 11), 0);
+        return no_table(reader);
     }
-    let reading = nx584_read(reader, bytes);
-    store(table, reading);
-    with_reply(reading, nx584_reply(reading.verdict, reading.type_byte))
+    let mut frame = reader.bytes;
+    let scanned = scan_c(
+        reader.framing,
+        reader.mode,
+        reader.digit,
+        reader.held,
+        &mut frame,
+        bytes,
+    );
+    let end = scanned.length as usize + 1;
+    store(table, scanned.verdict, &frame[1..end]);
+    let message = in_array(&frame[1..end]);
+    CHearing {
+        reader: reader_in(scanned, frame),
+        used: scanned.used,
+        verdict: scanned.verdict,
+        type_byte: scanned.type_byte,
+        reply: nx584_reply(scanned.verdict, scanned.type_byte),
+        length: scanned.length,
+        message,
+    }
 }
 
 // What a table says of a zone.

@@ -51,8 +51,8 @@ pendingOk (Open f) = true
 pendingOk Escape = true
 pendingOk (Digit d) = leb d 15
 
--- "sound when it holds no recovered byte, or when the first is a length L of 1 to 18 and it holds at most .. recovered
--- bytes"; n bytes are held
+-- "sound when it holds no recovered byte, or when the first is a length L of 1 to" 255 "and it holds at most ..
+-- recovered bytes"; n bytes are held
 abbrev pub soundWith : Mode → ℕ → ℕ → Bool
 soundWith mode n L = (eqb n 0 || lengthOk L && leb n (L + beyondLength mode)) && pendingOk mode
 

@@ -17,11 +17,11 @@ use Rattle.standard.specs.declared.Framing.{Framing}
 use Rattle.standard.specs.declared.Framing.the-variants.{Binary, Ascii}
 pub use Rattle.standard.specs.Words.{Bytes}
 use Rattle.standard.specs.Sums.{sumsOf}
-use Rattle.standard.specs.Messages.{among, checkOf}
+use Rattle.standard.specs.Messages.{lengthOk, among}
 use Rattle.standard.specs.Framing.{startOf, stuffed, digit, twoDigits, coded, coding, bodyOf}
 use Rattle.standard.specs.Framing.{Recovered, also, unstuff, valueOf, andDigit, digitsOf, pairs, recovered}
 use Rattle.standard.proofs.Sum.{sums-small}
-use Rattle.standard.proofs.Messages.{both-true, passed}
+use Rattle.standard.proofs.Messages.{both-true, length-ok}
 
 pub bytes-none : Bytes []
 bytes-none i = lit≤ tt
@@ -161,10 +161,10 @@ recovers f (b ∷ bs) q h =
     ∙ recover-one f b (coding f bs ++ q) (h zero)
     ∙ ap (also b) (recovers f bs q (λ i. h (suc i)))
 
--- the body of a good message: a length of at most 18, and sums of at most 254
-pub body-bytes : (m : List ℕ) → checkOf m ≡ 0 → Bytes m → Bytes (bodyOf m)
+-- the body of a message: a length of at most 255, and sums of at most 254
+pub body-bytes : (m : List ℕ) → lengthOk (length m) ≡ true → Bytes m → Bytes (bodyOf m)
 body-bytes m h b =
-    let few = passed m h .sized .few in
+    let few = length-ok (length m) h .few in
     let sums = sums-small (length m ∷ m) in
     let one = sumsOf (length m ∷ m) .one in
     let two = sumsOf (length m ∷ m) .two in

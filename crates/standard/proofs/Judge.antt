@@ -23,7 +23,7 @@ use Rattle.standard.specs.Framing.{digitsOf, pairs, recovered}
 use Rattle.standard.specs.Judge.{Handed, Judged, decided, unfinished, handing, plain, sumsDiffer, wholeOf, atStop}
 use Rattle.standard.specs.Judge.{ended, stuck, frameJudged, judgeAfter, judge}
 use Rattle.standard.specs.Stream.{upToStart, partsOf, partHands, partsHand, handedOf}
-use Rattle.standard.proofs.Messages.{both-true, passed}
+use Rattle.standard.proofs.Messages.{both-true, passed, good-length}
 use Rattle.standard.proofs.Framings.{Sent, start-escaped, escape-escaped, as-it-is, sent, Bytes, bytes-front}
 use Rattle.standard.proofs.Framings.{alsoAll, recovers, coding-append, ascii-length, body-length, Again}
 
@@ -104,9 +104,9 @@ handed-append f p q =
     (sym (parts-append x p [] ∙ ap (λ (l : List (List ℕ)). partsOf x p ++ l) (parts-start x [])))
     (sym (parts-start x q))
 
--- ---- the frame of a good message
+-- ---- the frame of a message
 
--- what is held after the length of a good frame: its message, its sums and any more
+-- what is held after the length of a frame: its message, its sums and any more
 abbrev heldAfter : List ℕ → List ℕ → List ℕ
 heldAfter m more = m ++ (sumsOf (length m ∷ m) .one ∷ sumsOf (length m ∷ m) .two ∷ more)
 
@@ -127,9 +127,9 @@ held-sums m more =
     )
 
 -- so its verdict is the message's own
-held-whole : (m more : List ℕ) → checkOf m ≡ 0 → wholeOf [] (length m) (heldAfter m more) ≡ handing 0 m
+held-whole : (m more : List ℕ) → wholeOf [] (length m) (heldAfter m more) ≡ handing (checkOf m) m
 unfolding wholeOf checkOf
-held-whole m more h = rw (held-sums m more, held-message m more, h)
+held-whole m more = rw (held-sums m more, held-message m more)
 
 -- the stop place is behind the two characters of each byte
 stop-place : (m q : List ℕ) → drop (2 * (length m + 3)) (coding Ascii (bodyOf m) ++ q) ≡ q
@@ -138,28 +138,23 @@ stop-place m q =
     (ascii-length (bodyOf m) ∙ ap (λ (n : ℕ). 2 * n) (body-length m))
 
 -- at the end of a frame, with its stop where it is due
-held-ended : (f : Framing) (m more q : List ℕ) → checkOf m ≡ 0
-    → ended f (coding f (bodyOf m) ++ (stopOf f ++ q)) (length m) (heldAfter m more) ≡ decided (handing 0 m)
+held-ended : (f : Framing) (m more q : List ℕ)
+    → ended f (coding f (bodyOf m) ++ (stopOf f ++ q)) (length m) (heldAfter m more) ≡ decided (handing (checkOf m) m)
 unfolding wholeOf
-held-ended Binary m more q h = ap decided (held-whole m more h)
-held-ended Ascii m more q h =
+held-ended Binary m more q = ap decided (held-whole m more)
+held-ended Ascii m more q =
     ap (λ (l : List ℕ). atStop l (length m) (heldAfter m more)) (stop-place m (0x0D ∷ q))
-    ∙ ap decided (held-whole m more h)
+    ∙ ap decided (held-whole m more)
 
--- a good length and all held: the end decides
-held-judged : (m more : List ℕ) (fault : Option ℕ) (end : ℕ → List ℕ → Judged) → checkOf m ≡ 0
+-- a length that is read and all held: the end decides
+held-judged : (m more : List ℕ) (fault : Option ℕ) (end : ℕ → List ℕ → Judged) → lengthOk (length m) ≡ true
     → frameJudged (length m ∷ heldAfter m more) fault end ≡ end (length m) (heldAfter m more)
 held-judged m more fault end h =
-    let sized = passed m h .sized in
     let long : length m + 2 ≤ length (heldAfter m more) = rw length-append (omega arith) in
-    rw (
-      le-leb 1 (length m) (sized .some),
-      le-leb (length m) longest (sized .few),
-      le-ltb (length (heldAfter m more)) (length m + 2) long,
-    )
+    rw (h, le-ltb (length (heldAfter m more)) (length m + 2) long)
 
--- once a good message's body is there, the end decides
-judge-body : (f : Framing) (m q : List ℕ) → checkOf m ≡ 0 → Bytes (bodyOf m)
+-- once a message's body is there, the end decides
+judge-body : (f : Framing) (m q : List ℕ) → lengthOk (length m) ≡ true → Bytes (bodyOf m)
     → judgeAfter f (coding f (bodyOf m) ++ q)
     ≡ ended f (coding f (bodyOf m) ++ q) (length m) (heldAfter m (recovered f q .bytes))
 judge-body f m q h b =
@@ -170,14 +165,19 @@ judge-body f m q h b =
     ∙ ap (λ (rest : List ℕ). frameJudged (length m ∷ rest) (left .fault) end) (append-assoc m sums (left .bytes))
     ∙ held-judged m (left .bytes) (left .fault) end h
 
+-- THE FRAME OF EVERY MESSAGE OF 1 TO 255 BYTES is judged by the message's own tests, whatever follows it
+pub judge-every : (f : Framing) (m q : List ℕ) → lengthOk (length m) ≡ true → Bytes (bodyOf m)
+    → judge f (frameOf f m ++ q) ≡ decided (handing (checkOf m) m)
+unfolding frameOf
+judge-every f m q h b =
+    ap (judgeAfter f) (append-assoc (coding f (bodyOf m)) (stopOf f) q)
+    ∙ judge-body f m (stopOf f ++ q) h b
+    ∙ held-ended f m (recovered f (stopOf f ++ q) .bytes) q
+
 -- THE FRAME OF A GOOD MESSAGE IS JUDGED GOOD, whatever follows it
 pub judge-frame : (f : Framing) (m q : List ℕ) → checkOf m ≡ 0 → Bytes (bodyOf m)
     → judge f (frameOf f m ++ q) ≡ decided (handing 0 m)
-unfolding frameOf
-judge-frame f m q h b =
-    ap (judgeAfter f) (append-assoc (coding f (bodyOf m)) (stopOf f) q)
-    ∙ judge-body f m (stopOf f ++ q) h b
-    ∙ held-ended f m (recovered f (stopOf f ++ q) .bytes) q h
+judge-frame f m q h b = judge-every f m q (good-length m h) b ∙ ap (λ (n : ℕ). decided (handing n m)) h
 
 -- ---- what is judged good
 
@@ -404,7 +404,7 @@ stop-decides : (m : List ℕ) → checkOf m ≡ 0 → Bytes (bodyOf m)
     → judge Ascii (startOf Ascii ∷ coding Ascii (bodyOf m)) ≡ unfinished
 stop-decides m h b =
     ap (judgeAfter Ascii) (sym (append-nil (coding Ascii (bodyOf m))))
-    ∙ judge-body Ascii m [] h b
+    ∙ judge-body Ascii m [] (good-length m h) b
     ∙ ap (λ (l : List ℕ). atStop l (length m) (heldAfter m (recovered Ascii [] .bytes))) (stop-place m [])
 
 -- THE FRAME'S LAST BYTE DECIDES: binary the last sum byte, ASCII the stop

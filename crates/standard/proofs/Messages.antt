@@ -1,15 +1,15 @@
 -- Laws of the verdict on a message, of the lengths and of the checked values. Assumes nothing.
-use Prim.Native.Nat.{ℕ, _%_, _≤_, _<_}
+use Prim.Native.Nat.{ℕ, zero, suc, _%_, _≤_, _<_}
 use native.Mathlib.Nat.{mod-lt, le-trans}
 use native.Mathlib.Omega.{arith}
 use mathlib.Core.Path.{_≡_, refl, sym, ap, subst, _∙_}
-use mathlib.Core.Bool.{Bool, true, false, cond, not, _&&_}
+use mathlib.Core.Bool.{Bool, true, false, cond, not, _&&_, _||_, false≢true}
 use mathlib.Core.List.{List, [], _∷_, _++_, map}
 use mathlib.Core.Logic.{inl, inr}
-use lib.Dec.{eqb, leb, eqb→eq, leb→le, lit<}
+use lib.Dec.{eqb, leb, ltb, eqb→eq, leb→le, lit<}
 use lib.ListN.{length}
 use types.Run.{OneOf}
-use borrow.Author.Tests.{eqb-true, eqb-false, leb-true, eq-eqb, ne-eqb, le-leb}
+use borrow.Author.Tests.{eqb-true, eqb-false, leb-true, leb-false, eq-eqb, ne-eqb, le-leb, lt-ltb, le-ltb}
 use Rattle.standard.specs.Words.{byte, bit, firstOf}
 use Rattle.standard.specs.Messages.{longest, lengthOk, known, lengthIn, longestKnown, numberOf, lengthFor}
 use Rattle.standard.specs.Messages.{among, clear, x10Ok, clockOk, valuesOk, messageTests, checkOf}
@@ -136,7 +136,7 @@ known-41 = refl
 pub known-once : map (λ row. lengthIn known (row .0)) known ≡ map (λ row. row .1) known
 known-once = refl
 
--- "1 to 18": the longest of the 41 messages has the greatest of their lengths, and none is longer than what is read
+-- the longest of the 41 messages has the greatest of their lengths, and none is longer than what is read
 pub known-most : (n : ℕ) → n < 64 → lengthIn known n ≤ longestKnown
 known-most n h = leb→le _ _ (below (λ k. leb (lengthIn known k) longestKnown) 64 tt n h)
 
@@ -153,6 +153,10 @@ known-length t h =
     let e = length-number t h in
     let few : lengthIn known (numberOf t) ≤ longest = le-trans (known-most (numberOf t) below-64) known-read in
     record { some = omega arith; few = subst (λ n. n ≤ longest) (sym e) few }
+
+-- a good message has a length that is read
+pub good-length : (m : List ℕ) → checkOf m ≡ 0 → lengthOk (length m) ≡ true
+good-length m h = ok-length (length m) (passed m h .sized)
 
 -- a good message has the length of its number
 pub passed-number : (m : List ℕ) (n : ℕ) → Passed m → numberOf (byte 1 m) ≡ n → length m ≡ lengthIn known n
@@ -282,3 +286,57 @@ passed-offset m p e = leb-true (byte 2 m) 240 (sym (values-offset m (numberOf (b
 
 pub passed-partition : (m : List ℕ) → Passed m → numberOf (byte 1 m) ≡ 0x06 → byte 2 m ≤ 7
 passed-partition m p e = leb-true (byte 2 m) 7 (sym (values-partition m (numberOf (byte 1 m)) (inl e)) ∙ p .valued)
+
+-- A GOOD MESSAGE HAS AT MOST 18 BYTES: it is one of the 41
+pub good-few : (m : List ℕ) → checkOf m ≡ 0 → length m ≤ longestKnown
+good-few m h =
+    let n = numberOf (byte 1 m) in
+    subst (λ k. k ≤ longestKnown) (sym (passed-number m n (passed m h) refl)) (known-most n (mod-lt (byte 1 m) (lit< tt)))
+
+-- ---- which lengths are read
+
+-- "Lengths 1 to 255 are now read"
+pub length-read : (n : ℕ) → not (lengthOk n) ≡ (eqb n 0 || ltb 255 n)
+length-read zero = refl
+length-read (suc n) = by-size (leb (suc n) 255) refl
+  where
+    by-size : (t : Bool) → leb (suc n) 255 ≡ t → not (lengthOk (suc n)) ≡ (eqb (suc n) 0 || ltb 255 (suc n))
+    by-size true h =
+        let few = leb-true (suc n) 255 h in
+        rw (h, le-leb 1 (suc n) (omega arith), ne-eqb (suc n) 0 (λ e. omega arith), le-ltb 255 (suc n) few)
+    by-size false h =
+        let many = leb-false (suc n) 255 h in
+        rw (h, le-leb 1 (suc n) (omega arith), ne-eqb (suc n) 0 (λ e. omega arith), lt-ltb 255 (suc n) many)
+
+-- of a frame's length byte: "Verdict 4 remains for length 0"
+pub length-byte : (n : ℕ) → n < 256 → lengthOk n ≡ not (eqb n 0)
+length-byte n h =
+    twice (lengthOk n) (eqb n 0)
+    (length-read n ∙ ap (λ t. eqb n 0 || t) (le-ltb 255 n (omega arith)))
+  where
+    twice : (s t : Bool) → not s ≡ (t || false) → s ≡ not t
+    twice true false e = refl
+    twice false true e = refl
+    twice true true e = absurd (false≢true e)
+    twice false false e = absurd (false≢true (sym e))
+
+-- of a message: "4 for an empty message or one above 255"
+pub check-four : (m : List ℕ) → eqb (checkOf m) 4 ≡ (eqb (length m) 0 || ltb 255 (length m))
+unfolding checkOf
+check-four m =
+    four-by (not (lengthOk (length m))) (not (not (eqb (lengthFor (byte 1 m)) 0)))
+    (not (eqb (length m) (lengthFor (byte 1 m))))
+    (not (valuesOk (numberOf (byte 1 m)) m))
+    ∙ length-read (length m)
+  where
+    four-by : (a b c d : Bool) → eqb (firstOf ((a, 4) ∷ (b, 6) ∷ (c, 7) ∷ (d, 8) ∷ [])) 4 ≡ a
+    four-by true b c d = refl
+    four-by false true c d = refl
+    four-by false false true d = refl
+    four-by false false false true = refl
+    four-by false false false false = refl
+
+-- one that is read and has a number of none of the 41
+pub check-six : (m : List ℕ) → lengthOk (length m) ≡ true → lengthFor (byte 1 m) ≡ 0 → checkOf m ≡ 6
+unfolding checkOf
+check-six m h unknown = rw (h, unknown)

@@ -11,12 +11,13 @@ use Rattle.standard.specs.declared.Framing.{Framing}
 use Rattle.standard.specs.declared.Framing.the-variants.{Binary, Ascii}
 use Rattle.standard.specs.declared.Said.{Said}
 use Rattle.standard.specs.declared.Said.the-variants.{Silent, Gave}
-use Rattle.standard.specs.Messages.{among, checkOf}
+use Rattle.standard.specs.Messages.{lengthOk, among, checkOf}
 use Rattle.standard.specs.Framing.{startOf, stopOf, coding, bodyOf, frameOf}
 use Rattle.standard.specs.Judge.{Judged, decided, unfinished, handing, judge, verdictsIn}
 use Rattle.standard.specs.Stream.{upToStart, partsOf, partHands, partsHand, handedOf, startsOf, openOf, lastOpen}
 use Rattle.standard.proofs.Framings.{Bytes, body-bytes, among-append, start, no-mark}
-use Rattle.standard.proofs.Judge.{judge-frame}
+use Rattle.standard.proofs.Messages.{good-length}
+use Rattle.standard.proofs.Judge.{judge-every}
 use Rattle.standard.proofs.Decided.{handed-part, handed-amid-part}
 
 -- the verdicts tell the case and its values
@@ -39,10 +40,14 @@ no-start f m =
     no-stop Ascii = refl
 
 -- so it is a part that is decided
+judged : (f : Framing) (m : List ℕ) → lengthOk (length m) ≡ true → Bytes m
+    → judge f (startOf f ∷ coding f (bodyOf m) ++ stopOf f) ≡ decided (handing (checkOf m) m)
+unfolding frameOf
+judged f m h b = rw append-nil at (judge-every f m [] h (body-bytes m h b))
+
 judged-good : (f : Framing) (m : List ℕ) → checkOf m ≡ 0 → Bytes m
     → judge f (startOf f ∷ coding f (bodyOf m) ++ stopOf f) ≡ decided (handing 0 m)
-unfolding frameOf
-judged-good f m h b = rw append-nil at (judge-frame f m [] h (body-bytes m h b))
+judged-good f m h b = judged f m (good-length m h) b ∙ ap (λ (n : ℕ). decided (handing n m)) h
 
 -- it hands out its message, and then what follows it hands out its own
 pub handed-frame : (f : Framing) (m q : List ℕ) → checkOf m ≡ 0 → Bytes m
@@ -52,11 +57,18 @@ handed-frame f m q h b =
     handed-part f (coding f (bodyOf m) ++ stopOf f) q (handing 0 m) (no-start f m) (judged-good f m h b)
 
 -- WHATEVER STANDS BEFORE AND AFTER IT: the bytes before are as if its start byte were their last
+pub handed-every : (f : Framing) (p m q : List ℕ) → lengthOk (length m) ≡ true → Bytes m
+    → handedOf f (p ++ (frameOf f m ++ q))
+    ≡ handedOf f (p ++ (startOf f ∷ [])) ++ (handing (checkOf m) m ∷ handedOf f q)
+unfolding frameOf
+handed-every f p m q h b =
+    handed-amid-part f p (coding f (bodyOf m) ++ stopOf f) q (handing (checkOf m) m) (no-start f m) (judged f m h b)
+
 pub handed-amid : (f : Framing) (p m q : List ℕ) → checkOf m ≡ 0 → Bytes m
     → handedOf f (p ++ (frameOf f m ++ q)) ≡ handedOf f (p ++ (startOf f ∷ [])) ++ (handing 0 m ∷ handedOf f q)
-unfolding frameOf
 handed-amid f p m q h b =
-    handed-amid-part f p (coding f (bodyOf m) ++ stopOf f) q (handing 0 m) (no-start f m) (judged-good f m h b)
+    handed-every f p m q (good-length m h) b
+    ∙ ap (λ (n : ℕ). handedOf f (p ++ (startOf f ∷ [])) ++ (handing n m ∷ handedOf f q)) h
 
 -- ---- how many verdicts
 

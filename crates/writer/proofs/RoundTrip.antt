@@ -17,7 +17,7 @@ use Rattle.standard.specs.Messages.{among, checkOf}
 use Rattle.standard.specs.Framing.{startOf, stopOf, stuffed, coding, bodyOf, frameOf, also, unstuff, recovered}
 use Rattle.standard.specs.Judge.{decided, unfinished, handing, judge}
 use Rattle.standard.specs.Stream.{handedOf}
-use Rattle.standard.proofs.Messages.{both-true}
+use Rattle.standard.proofs.Messages.{both-true, good-length}
 use Rattle.standard.proofs.Framings.{Sent, start-escaped, escape-escaped, as-it-is, sent}
 use Rattle.standard.proofs.Framings.{Bytes, bytes-none, bytes-cons, bytes-append, body-bytes, coding-bytes}
 use Rattle.standard.proofs.Framings.{Again, again-none, again-one, pairs-again}
@@ -160,7 +160,7 @@ pub record FrameReads (f : Framing) (m : List ℕ) : Type 0 where
 pub frame-reads : (f : Framing) (m : List ℕ) → checkOf m ≡ 0 → Bytes m → FrameReads f m
 unfolding frameOf
 frame-reads f m h b =
-    let body = body-bytes m h b in
+    let body = body-bytes m (good-length m h) b in
     let l = last-decides f m h body in
     let same : inside f m ≡ l .front ++ (l .last ∷ []) = ap (drop 1) (l .is) in
     record {

@@ -80,6 +80,20 @@ number-held m (suc n) L h = bounded m n L (sound-sized m n L h)
 pub sound-held : (r : Reader) → soundReader r ≡ true → r .held ≤ longest + 3
 sound-held r h = number-held (r .mode) (r .held) (getD (r .bytes) 0 0) h
 
+-- "The reader holds up to 258 recovered bytes": in ASCII, where the stop is due then. With a digit pending, and in
+-- binary, it is one fewer
+pub up-to-258 : (r : Reader) → soundReader r ≡ true → r .held ≤ 258
+up-to-258 = sound-held
+
+pub holds-258 : soundWith (Open Ascii) 258 255 ≡ true
+holds-258 = refl
+
+pub no-258-binary : (soundWith (Open Binary) 257 255 ≡ true) × (soundWith (Open Binary) 258 255 ≡ false)
+no-258-binary = (refl, refl)
+
+pub no-258-digit : (d : ℕ) → soundWith (Digit d) 258 255 ≡ false
+no-258-digit d = refl
+
 -- ---- what no stream shows
 
 -- between frames a reader that holds bytes, as none met does, is sound where one in a frame is

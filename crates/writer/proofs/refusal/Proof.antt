@@ -4,7 +4,8 @@ use native.Mathlib.Omega.{arith}
 use lib.ListN.{length}
 use Rattle.standard.specs.Framing.{frameOf}
 use Rattle.writer.proofs.Fit.{beyond, short, fits}
-use Rattle.writer.proofs.Lengths.{good-few, frame-most}
+use Rattle.standard.proofs.Messages.{good-few}
+use Rattle.writer.proofs.Lengths.{frame-most}
 use Rattle.writer.proofs.refusal.Statement.{statement}
 use Rattle.writer.proofs.refusal.Tie as tie
 

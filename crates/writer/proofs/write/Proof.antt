@@ -13,7 +13,7 @@ use Rattle.standard.specs.Framing.{frameOf}
 use Rattle.standard.specs.Writer.{writeRefusal}
 use Rattle.standard.proofs.Put.{mid-laid}
 use Rattle.writer.proofs.Fit.{fit}
-use Rattle.writer.proofs.Lengths.{good-few}
+use Rattle.standard.proofs.Messages.{good-few}
 use Rattle.writer.proofs.Answers.{first-refusal, last-refusal, told-refused, told-written}
 use Rattle.writer.proofs.write.Statement.{statement}
 use Rattle.writer.proofs.write.Tie as tie
