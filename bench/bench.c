@@ -8,6 +8,7 @@
 #include <time.h>
 
 enum { RUNS = 9, CAPTURE = 1 << 16, LONGEST_CAPTURE = 1 << 24, MESSAGES = 4096 };
+enum { LONGEST_FRAME = 2 * (NX584_LONGEST + 3) + 2 };
 enum { ANY = -1, COMMANDS = -2 }; /* kinds of messages, beside the single ones */
 static const double LEAST_SECONDS = 0.01;
 
@@ -80,6 +81,56 @@ static void make_frames(uint8_t framing, uint8_t *bytes, size_t length, size_t d
         bytes[k] = any_byte();
 }
 
+/* One byte of a frame as it stands on the line. */
+static size_t put_byte(uint8_t framing, uint8_t *to, uint8_t byte)
+{
+    static const char digits[] = "0123456789ABCDEF";
+    if (framing) {
+        to[0] = (uint8_t)digits[byte >> 4];
+        to[1] = (uint8_t)digits[byte & 15];
+        return 2;
+    }
+    if (byte != 0x7D && byte != 0x7E) {
+        to[0] = byte;
+        return 1;
+    }
+    to[0] = 0x7D;
+    to[1] = byte ^ 0x20;
+    return 2;
+}
+
+/* The frame of a message of NX584_LONGEST bytes whose number is unrecognised, its sums right: verdict 6. The
+ * library writes no such frame. */
+static size_t put_long_frame(uint8_t framing, uint8_t *to)
+{
+    uint8_t body[NX584_LONGEST + 3] = {NX584_LONGEST};
+    unsigned sum1 = 0, sum2 = 0;
+    size_t end = 1;
+    for (size_t k = 1; k <= NX584_LONGEST; k++)
+        body[k] = any_byte();
+    body[1] |= 0x40; /* the reserved bit */
+    for (size_t k = 0; k <= NX584_LONGEST; k++) {
+        sum1 = (sum1 + body[k]) % 255;
+        sum2 = (sum2 + sum1) % 255;
+    }
+    body[NX584_LONGEST + 1] = (uint8_t)sum1;
+    body[NX584_LONGEST + 2] = (uint8_t)sum2;
+    to[0] = framing ? 0x0A : 0x7E;
+    for (size_t k = 0; k < sizeof body; k++)
+        end += put_byte(framing, to + end, body[k]);
+    if (framing)
+        to[end++] = 0x0D;
+    return end;
+}
+
+static void make_long_frames(uint8_t framing, uint8_t *bytes, size_t length)
+{
+    size_t at = 0;
+    while (at + LONGEST_FRAME <= length)
+        at += put_long_frame(framing, bytes + at);
+    memset(bytes + at, 0, length - at);
+}
+
 /* ---- the measurements */
 
 static uint8_t *capture, table[NX584_TABLE_BYTES];
@@ -89,6 +140,8 @@ static messages made;
 static void binary_frames(size_t units) { make_frames(0, capture, units, 0); }
 static void ascii_frames(size_t units) { make_frames(1, capture, units, 0); }
 static void damaged_frames(size_t units) { make_frames(0, capture, units, 100); }
+static void long_binary_frames(size_t units) { make_long_frames(0, capture, units); }
+static void long_ascii_frames(size_t units) { make_long_frames(1, capture, units); }
 static void starts(size_t units) { memset(capture, 0x7E, units); }
 static void mixed(size_t units) { made = make_messages(ANY, units); }
 static void zone_status(size_t units) { made = make_messages(0, units); }
@@ -167,6 +220,12 @@ static const struct line {
     {"read noise, binary", "byte", noise, read_binary, CAPTURE},
     {"read noise, ASCII", "byte", noise, read_ascii, CAPTURE},
     {"read start bytes only", "byte", starts, read_binary, CAPTURE},
+    {"read binary, 255-byte frames", "byte", long_binary_frames, read_binary, CAPTURE},
+    {"read binary, 255-byte frames, 16 bytes a call", "byte", long_binary_frames, read_binary_16, CAPTURE},
+    {"read binary, 255-byte frames, 1 byte a call", "byte", long_binary_frames, read_binary_1, CAPTURE},
+    {"read ASCII, 255-byte frames", "byte", long_ascii_frames, read_ascii, CAPTURE},
+    {"read ASCII, 255-byte frames, 16 bytes a call", "byte", long_ascii_frames, read_ascii_16, CAPTURE},
+    {"read ASCII, 255-byte frames, 1 byte a call", "byte", long_ascii_frames, read_ascii_1, CAPTURE},
     {"write binary", "frame", mixed, write_binary, MESSAGES},
     {"write ASCII", "frame", mixed, write_ascii, MESSAGES},
     {"apply 04h", "message", zone_status, apply, MESSAGES},

@@ -73,9 +73,10 @@ static void judge(nx584_reading *a)
 static void hold(nx584_reading *a, uint8_t byte)
 {
     nx584_reader *r = &a->reader;
-    r->bytes[r->held++] = byte;
-    if (r->held == 1 && (byte < 1 || byte > NX584_LONGEST))
+    if (r->held == 0 && byte == 0)
         decided(a, 4);
+    else
+        r->bytes[r->held++] = byte;
 }
 
 static void step_binary(nx584_reading *a, uint8_t byte)
@@ -188,7 +189,7 @@ nx584_written nx584_write(const uint8_t *message, size_t message_len, uint8_t fr
                           size_t out_len, size_t place)
 {
     nx584_written w = {0};
-    uint8_t body[NX584_LONGEST + 3], frame[2 * (NX584_LONGEST + 3) + 2];
+    uint8_t body[LONGEST_GOOD + 3], frame[2 * (LONGEST_GOOD + 3) + 2];
     size_t n;
     if (message_len < 1 || message_len > NX584_LONGEST) {
         w.number = 4;
@@ -314,17 +315,15 @@ nx584_overview nx584_view(const uint8_t *table, size_t table_len)
 nx584_hearing nx584_hear(nx584_reader reader, uint8_t *table, size_t table_len, const uint8_t *bytes,
                          size_t bytes_len)
 {
-    nx584_hearing h = {.reader = reader, .verdict = 11};
-    if (table_len != NX584_TABLE_BYTES)
-        return h;
+    if (table_len != NX584_TABLE_BYTES) {
+        nx584_hearing refused = {.reader = reader, .verdict = 11};
+        return refused;
+    }
     nx584_reading a = nx584_read(reader, bytes, bytes_len);
-    h.reader = a.reader;
-    h.used = a.used;
-    h.verdict = a.verdict;
-    h.type = a.type;
+    nx584_hearing h = {.reader = a.reader, .used = a.used, .verdict = a.verdict, .type = a.type};
     h.reply = nx584_reply(a.verdict, a.type);
     h.length = a.length;
-    memcpy(h.message, a.message, sizeof h.message);
+    memcpy(h.message, a.message, a.length);
     if (a.verdict == 0)
         store(table, a.message);
     return h;

@@ -1,7 +1,8 @@
-/* The fastest plain C that we could make of nx584.h: a whole frame at once in words of eight bytes, totals
- * in place of eight-bit sums, `memchr` between frames. A struct that goes back is made of words, since a
- * wide load of what was just stored in narrow pieces has to wait. What is not a whole frame is read byte
- * by byte. tests/run holds it to the second program as it holds the library. */
+/* The fastest plain C that we could make of nx584.h: a whole frame of a good message's length at once in
+ * words of eight bytes, totals in place of eight-bit sums, `memchr` between frames. A struct that goes back
+ * is made of words and vectors, since a wide load of what was just stored in narrow pieces has to wait. What
+ * is longer or not whole is taken in runs of sixteen bytes, and byte by byte between them. tests/run holds it
+ * to the second program as it holds the library. */
 #include "plain.h"
 
 #if __BYTE_ORDER__ != __ORDER_LITTLE_ENDIAN__
@@ -11,7 +12,8 @@
 #define ALWAYS static inline __attribute__((always_inline))
 #define EACH(byte) (0x0101010101010101u * (byte))
 
-enum { WORDS = 24, CHARACTERS = 48 }; /* a frame's bytes and its digits, rounded up */
+/* The bytes of a frame of a good message's length, and its digits, rounded up. */
+enum { WORDS = 24, CHARACTERS = 48 };
 
 ALWAYS uint64_t load(const uint8_t *p)
 {
@@ -30,7 +32,15 @@ ALWAYS uint32_t load_half(const uint8_t *p)
 typedef uint8_t bytes16 __attribute__((vector_size(16)));
 typedef uint8_t bytes8 __attribute__((vector_size(8)));
 typedef uint16_t pairs __attribute__((vector_size(16)));
+typedef uint32_t quads __attribute__((vector_size(16)));
 typedef uint64_t two __attribute__((vector_size(16)));
+
+ALWAYS bytes16 load_vector(const uint8_t *p)
+{
+    bytes16 v;
+    memcpy(&v, p, 16);
+    return v;
+}
 
 /* Ones in the first n of 24 or 48 bytes. */
 static const uint8_t ones[2 * CHARACTERS] = {
@@ -41,6 +51,15 @@ static const uint8_t ones[2 * CHARACTERS] = {
 ALWAYS const uint8_t *first(size_t n)
 {
     return ones + CHARACTERS - n;
+}
+
+/* Sixteen bytes in one store, as a caller that copies an answer loads them: those of v where the others of
+ * `where` are ones, else the old ones. */
+ALWAYS void put_over(uint8_t *to, bytes16 v, const uint8_t *old, const uint8_t *where)
+{
+    bytes16 mask = load_vector(where);
+    v = (v & mask) | (load_vector(old) & ~mask);
+    memcpy(to, &v, 16);
 }
 
 /* ---- messages */
@@ -65,7 +84,7 @@ static int values_are_good(const uint8_t *m)
     return (uint8_t)((m[rules[number].at] & rules[number].bits) - rules[number].least) <= rules[number].span;
 }
 
-/* ---- a frame in words: its length byte and its message, zero beyond them */
+/* ---- a frame in words: its length byte and a message of at most 18 bytes, zero beyond them */
 
 typedef struct {
     uint64_t w[3];
@@ -109,23 +128,63 @@ ALWAYS sums sums_of(words f, uint32_t n)
     return s;
 }
 
-/* ---- digits, sixteen at a time */
+/* ---- a longer frame in rows of sixteen bytes */
 
-ALWAYS bytes16 load_vector(const uint8_t *p)
+ALWAYS quads widen(pairs v)
 {
-    bytes16 v;
-    memcpy(&v, p, 16);
-    return v;
+    return ((quads)v & 0xFFFF) + ((quads)v >> 16);
 }
 
-/* Eight bytes of sixteen characters; where one of those that count is no digit, bad becomes so. */
-ALWAYS bytes8 from_digits(const uint8_t *p, const uint8_t *counts, bytes16 *bad)
+ALWAYS uint32_t total_of(quads v)
+{
+    return v[0] + v[1] + v[2] + v[3];
+}
+
+/* The sums of up to 256 bytes. Sum 2 counts byte j of a row 16 - j times, and 16 times more for each row after
+ * it; what that is too much in a last row that is not full goes off at the end. No lane of 16 bits overflows
+ * in 16 rows: a column has at most 16 * 255, and it counted for the rows after 120 * 255. */
+ALWAYS sums sums_of_rows(const uint8_t *p, uint32_t n)
+{
+    const pairs even_times = {16, 14, 12, 10, 8, 6, 4, 2}, odd_times = even_times - 1;
+    pairs even = {0}, odd = {0}, even_before = {0}, odd_before = {0};
+    uint32_t i = 0;
+    for (; i < n; i += 16) {
+        bytes16 v = load_vector(p + i);
+        if (n - i < 16)
+            v &= load_vector(first(n - i));
+        even_before += even;
+        odd_before += odd;
+        even += (pairs)v & 0xFF;
+        odd += (pairs)v >> 8;
+    }
+    uint32_t total = total_of(widen(even + odd));
+    uint32_t times = total_of(widen(even * even_times) + widen(odd * odd_times) + widen(even_before + odd_before) * 16);
+    sums s = {(uint8_t)(total % 255), (uint8_t)((times - (i - n) * total) % 255)};
+    return s;
+}
+
+/* ---- digits, sixteen at a time */
+
+/* The values of sixteen characters; where one of those that count is no digit, bad becomes so. */
+ALWAYS bytes16 from_digits(const uint8_t *p, const uint8_t *counts, bytes16 *bad)
 {
     bytes16 c = load_vector(p), number = c - '0', letter = c - 'A';
     bytes16 is_number = (bytes16)(number < 10), is_letter = (bytes16)(letter < 6);
-    pairs both = (pairs)((number & is_number) | ((letter + 10) & is_letter));
     *bad |= ~(is_number | is_letter) & load_vector(counts);
+    return (number & is_number) | ((letter + 10) & is_letter);
+}
+
+/* The bytes of eight pairs of digits. */
+ALWAYS bytes8 in_pairs(bytes16 values)
+{
+    pairs both = (pairs)values;
     return __builtin_convertvector((both << 4 | both >> 8) & 0xFF, bytes8);
+}
+
+ALWAYS int is_any(bytes16 bad)
+{
+    two any = (two)bad;
+    return (any[0] | any[1]) != 0;
 }
 
 ALWAYS void to_digits(uint8_t *to, uint64_t w)
@@ -140,67 +199,76 @@ ALWAYS void to_digits(uint8_t *to, uint64_t w)
 
 /* ---- reader */
 
-/* What a read gives, in words: the reader's bytes, verdict and type byte, and for verdict 0 the frame's
- * length byte and message. */
+enum { HEAD = offsetof(nx584_reader, bytes), HELD_MOST = NX584_LONGEST + 3 };
+
+/* What a read gives beside its reader: used bytes, verdict and type byte, and for verdict 0 the frame's
+ * length byte and message. Of a whole frame also how the reader changes: its head, which is all before its
+ * bytes, and the first ones of these. */
 typedef struct {
-    uint64_t reader[4];
     size_t used;
     uint64_t verdict, type;
     words body;
+    uint64_t head;
+    words frame;
+    size_t count;
 } scanned;
 
-/* The words of a reader, by loads that no two stores of a caller's copy fall into. */
-ALWAYS void load_reader(uint64_t *x, const nx584_reader *r)
+ALWAYS uint64_t head_of(unsigned framing, unsigned mode, unsigned digit, unsigned held)
 {
-    const uint8_t *p = (const uint8_t *)r;
-    bytes16 v;
-    two low;
-    memcpy(&v, p, 16);
-    memcpy(&low, &v, 16);
-    x[0] = low[0];
-    x[1] = low[1];
-    x[2] = load(p + 16);
-    x[3] = load_half(p + 24);
+    return framing | mode << 8 | digit << 16 | (uint64_t)held << 32;
 }
 
 /* The reader that has had a verdict holds nothing. */
 ALWAYS void decided(scanned *s, unsigned framing, size_t used, uint8_t verdict)
 {
-    s->reader[0] = framing | (verdict == 1 ? IN_FRAME << 8 : SKIPPING);
-    s->reader[1] = s->reader[2] = s->reader[3] = 0;
+    s->head = head_of(framing, verdict == 1 ? IN_FRAME : SKIPPING, 0, 0);
     s->used = used;
     s->verdict = verdict;
 }
 
-/* The verdict on a whole frame of which 24 bytes can be loaded; at least its own are there. */
-ALWAYS void judge(scanned *s, unsigned framing, size_t used, const uint8_t *frame, words f)
+/* The verdict on a frame that is all there, by what its sums should be. */
+ALWAYS void judge(scanned *s, unsigned framing, size_t used, const uint8_t *frame, sums right)
 {
-    uint32_t n = frame[0];
-    sums right = sums_of(f, n + 1);
+    size_t n = frame[0];
     uint8_t verdict = 5;
     if (frame[n + 1] == right.one && frame[n + 2] == right.two) {
         verdict = verdict_of(frame + 1, n);
         s->type = frame[1];
-        if (verdict == 0)
-            s->body = f;
     }
     decided(s, framing, used, verdict);
 }
 
-/* A frame whose first byte is at i, if that byte decides or it is all there and none of it is escaped. */
+/* The same of one that is no longer than a good message's, and of which 24 bytes can be loaded. */
+ALWAYS void judge_words(scanned *s, unsigned framing, size_t used, const uint8_t *frame, words f)
+{
+    judge(s, framing, used, frame, sums_of(f, frame[0] + 1u));
+    if (s->verdict == 0)
+        s->body = f;
+}
+
+ALWAYS void judge_whole(scanned *s, unsigned framing, size_t used, const uint8_t *frame, words f)
+{
+    judge_words(s, framing, used, frame, f);
+    for (int k = 0; k < 3; k++)
+        s->frame.w[k] = load(frame + 8 * k);
+    s->count = frame[0] + 3u;
+}
+
+/* A frame whose first byte is at i, if that byte decides or it is all there, no longer than a good message's
+ * and none of it escaped. */
 ALWAYS int whole_binary(scanned *s, const uint8_t *b, size_t n, size_t i)
 {
     uint8_t near_end[WORDS];
     size_t left = n - i, length;
     const uint8_t *frame = b + i;
-    if (left == 0 || frame[0] == ESCAPE)
+    if (left == 0)
         return 0;
     length = frame[0];
-    if (length - 1 >= NX584_LONGEST) {
-        decided(s, 0, i + 1, length == BINARY_START ? 1 : 4);
+    if (length == 0 || length == BINARY_START) {
+        decided(s, 0, i + 1, length ? 1 : 4);
         return 1;
     }
-    if (left < length + 3)
+    if (length > LONGEST_GOOD || left < length + 3)
         return 0;
     if (left < WORDS) {
         memset(near_end, 0, WORDS);
@@ -210,7 +278,7 @@ ALWAYS int whole_binary(scanned *s, const uint8_t *b, size_t n, size_t i)
     uint64_t sum_bytes = (uint64_t)frame[length + 1] << 8 | frame[length + 2];
     if (special(f.w[0]) | special(f.w[1]) | special(f.w[2]) | special(sum_bytes))
         return 0;
-    judge(s, 0, i + length + 3, frame, f);
+    judge_whole(s, 0, i + length + 3, frame, f);
     return 1;
 }
 
@@ -220,7 +288,6 @@ ALWAYS int whole_ascii(scanned *s, const uint8_t *b, size_t n, size_t i)
     size_t left = n - i, length, characters;
     const uint8_t *p = b + i;
     bytes16 bad = {0};
-    uint64_t any[2];
     if (left != 0 && !digits[p[0]]) {
         decided(s, 1, i + 1, p[0] == ASCII_START ? 1 : 2);
         return 1;
@@ -229,105 +296,182 @@ ALWAYS int whole_ascii(scanned *s, const uint8_t *b, size_t n, size_t i)
         return 0;
     length = (size_t)(digits[p[0]] & 15) << 4 | (digits[p[1]] & 15);
     characters = 2 * (length + 3);
-    if (length - 1 >= NX584_LONGEST || left <= characters || p[characters] != ASCII_STOP)
+    if (length - 1 >= LONGEST_GOOD || left <= characters || p[characters] != ASCII_STOP)
         return 0;
     if (left < CHARACTERS) {
         memset(near_end, 0, CHARACTERS);
         p = memcpy(near_end, p, left);
     }
     for (int k = 0; k < 3; k++) {
-        bytes8 part = from_digits(p + 16 * k, first(characters) + 16 * k, &bad);
+        bytes8 part = in_pairs(from_digits(p + 16 * k, first(characters) + 16 * k, &bad));
         memcpy(frame + 8 * k, &part, 8);
     }
-    memcpy(any, &bad, 16);
-    if (any[0] | any[1])
+    if (is_any(bad))
         return 0;
-    judge(s, 1, i + characters + 1, frame, load_words(frame, length + 1));
+    judge_whole(s, 1, i + characters + 1, frame, load_words(frame, length + 1));
     return 1;
 }
 
-/* The reader as the byte loops leave it. */
-ALWAYS void keep(scanned *s, const nx584_reader *r, unsigned framing, unsigned mode, unsigned digit, unsigned held)
-{
-    load_reader(s->reader, r);
-    s->reader[0] = (s->reader[0] & ~(uint64_t)0xFFFFFFFFFFFF) | framing | mode << 8 | digit << 16 | (uint64_t)held << 32;
-}
+/* ---- reader: what is not a whole frame, in the answer's own reader */
 
 static void judge_held(scanned *s, const nx584_reader *r, unsigned framing, size_t used)
 {
-    uint8_t frame[WORDS];
-    memcpy(frame, r->bytes, sizeof r->bytes);
-    judge(s, framing, used, frame, load_words(frame, frame[0] + 1u));
+    const uint8_t *frame = r->bytes;
+    uint32_t n = frame[0] + 1u;
+    if (n <= LONGEST_GOOD + 1)
+        judge_words(s, framing, used, frame, load_words(frame, n));
+    else
+        judge(s, framing, used, frame, sums_of_rows(frame, n));
+}
+
+/* Up to sixteen bytes that stand for themselves, behind those held; sixteen can be loaded and stored. */
+ALWAYS unsigned run_binary(uint8_t *to, const uint8_t *from, unsigned most)
+{
+    bytes16 v = load_vector(from);
+    two found = (two)(bytes16)((bytes16)(v - ESCAPE) < 2);
+    unsigned count = 16;
+    if (found[0])
+        count = (unsigned)__builtin_ctzll(found[0]) / 8;
+    else if (found[1])
+        count = 8 + (unsigned)__builtin_ctzll(found[1]) / 8;
+    if (count > most)
+        count = most;
+    if (count == 16)
+        memcpy(to, &v, 16);
+    else
+        put_over(to, v, to, first(count));
+    return count;
+}
+
+/* A frame that is being taken: how many bytes of it are held and how many it has, the mode or whether a digit
+ * is pending, and that digit. */
+typedef struct {
+    unsigned held, end, mode, pending, digit;
+} taking;
+
+ALWAYS taking take_up(const nx584_reader *r)
+{
+    taking t = {r->held, r->held ? r->bytes[0] + 3u : 1, r->mode, r->mode == DIGIT_PENDING, r->digit};
+    return t;
+}
+
+/* One byte: 1 or 4, or 0 where it has no verdict by itself. */
+ALWAYS unsigned take_binary(taking *t, uint8_t *bytes, unsigned c)
+{
+    if (c == BINARY_START)
+        return 1;
+    if (t->mode == ESCAPED) {
+        c ^= 0x20;
+        t->mode = IN_FRAME;
+    } else if (c == ESCAPE) {
+        t->mode = ESCAPED;
+        return 0;
+    }
+    if (t->held == 0) {
+        if (c == 0)
+            return 4;
+        t->end = c + 3;
+    }
+    bytes[t->held++] = (uint8_t)c;
+    return 0;
 }
 
 static void bytes_binary(scanned *s, nx584_reader *r, const uint8_t *b, size_t n, size_t i)
 {
-    unsigned held = r->held, mode = r->mode, end = held ? r->bytes[0] + 3u : 1;
+    taking t = take_up(r);
     while (i < n) {
-        uint8_t c = b[i++];
-        if (c == BINARY_START) {
-            decided(s, 0, i, 1);
+        unsigned count = 0, verdict = 0;
+        if (n - i >= 16 && t.held - 1 < HELD_MOST - 16 && t.mode == IN_FRAME) {
+            count = run_binary(r->bytes + t.held, b + i, t.end - t.held);
+            i += count;
+            t.held += count;
+        }
+        if (count < 16 && t.held != t.end)
+            verdict = take_binary(&t, r->bytes, b[i++]);
+        if (verdict != 0) {
+            decided(s, 0, i, (uint8_t)verdict);
             return;
         }
-        if (mode == ESCAPED) {
-            c ^= 0x20;
-            mode = IN_FRAME;
-        } else if (c == ESCAPE) {
-            mode = ESCAPED;
-            continue;
-        }
-        r->bytes[held++] = c;
-        if (held != end)
-            continue;
-        if (held > 1) {
+        if (t.held == t.end) {
             judge_held(s, r, 0, i);
             return;
         }
-        if (c - 1u >= NX584_LONGEST) {
-            decided(s, 0, i, 4);
-            return;
-        }
-        end = c + 3u;
     }
-    keep(s, r, 0, mode, 0, held);
+    s->head = head_of(0, t.mode, 0, t.held);
     s->used = n;
+}
+
+/* Up to sixteen digits behind what is held; sixteen characters can be loaded and eight bytes stored. How many
+ * they were; 0 where one of them is no digit. */
+ALWAYS unsigned run_ascii(taking *t, uint8_t *bytes, const uint8_t *from)
+{
+    unsigned left = 2 * (t->end - t->held) - t->pending, count = left < 16 ? left : 16;
+    unsigned whole = (count + t->pending) / 2;
+    bytes16 bad = {0};
+    two values = (two)from_digits(from, first(count), &bad);
+    if (is_any(bad))
+        return 0;
+    if (t->pending) {
+        uint64_t last = values[1] >> 56;
+        values[1] = values[1] << 8 | values[0] >> 56;
+        values[0] = values[0] << 8 | t->digit;
+        t->digit = (unsigned)last;
+    }
+    bytes8 made = in_pairs((bytes16)values);
+    uint64_t word, mask = load(first(whole));
+    memcpy(&word, &made, 8);
+    word = (word & mask) | (load(bytes + t->held) & ~mask);
+    memcpy(bytes + t->held, &word, 8);
+    t->pending = (count + t->pending) % 2;
+    t->held += whole;
+    return count;
+}
+
+/* One character where a digit is due: 1, 2 or 4, or 0 where it has no verdict by itself. */
+ALWAYS unsigned take_ascii(taking *t, uint8_t *bytes, uint8_t c)
+{
+    unsigned digit = digits[c];
+    if (digit == 0)
+        return c == ASCII_START ? 1 : 2;
+    digit -= 16;
+    t->pending ^= 1;
+    if (t->pending) {
+        t->digit = digit;
+        return 0;
+    }
+    digit |= t->digit << 4;
+    if (t->held == 0) {
+        if (digit == 0)
+            return 4;
+        t->end = digit + 3;
+    }
+    bytes[t->held++] = (uint8_t)digit;
+    return 0;
 }
 
 static void bytes_ascii(scanned *s, nx584_reader *r, const uint8_t *b, size_t n, size_t i)
 {
-    unsigned held = r->held, end = held ? r->bytes[0] + 3u : 1;
-    unsigned pending = r->mode == DIGIT_PENDING, high = r->digit;
+    taking t = take_up(r);
     while (i < n) {
-        uint8_t c = b[i++];
-        if (held == end) {
-            if (c == ASCII_STOP)
-                judge_held(s, r, 1, i);
+        if (t.held == t.end) {
+            if (b[i] == ASCII_STOP)
+                judge_held(s, r, 1, i + 1);
             else
-                decided(s, 1, i, c == ASCII_START ? 1 : 3);
+                decided(s, 1, i + 1, b[i] == ASCII_START ? 1 : 3);
             return;
         }
-        unsigned digit = digits[c];
-        if (digit == 0) {
-            decided(s, 1, i, c == ASCII_START ? 1 : 2);
+        unsigned count = 0, verdict = 0;
+        if (n - i >= 16 && t.held - 1 < HELD_MOST - 8)
+            count = run_ascii(&t, r->bytes, b + i);
+        i += count;
+        if (count == 0)
+            verdict = take_ascii(&t, r->bytes, b[i++]);
+        if (verdict != 0) {
+            decided(s, 1, i, (uint8_t)verdict);
             return;
-        }
-        digit -= 16;
-        pending ^= 1;
-        if (pending) {
-            high = digit;
-            continue;
-        }
-        c = (uint8_t)(high << 4 | digit);
-        r->bytes[held++] = c;
-        if (held == 1) {
-            if (c - 1u >= NX584_LONGEST) {
-                decided(s, 1, i, 4);
-                return;
-            }
-            end = c + 3u;
         }
     }
-    keep(s, r, 1, pending ? DIGIT_PENDING : IN_FRAME, pending ? high : 0, held);
+    s->head = head_of(1, t.pending ? DIGIT_PENDING : IN_FRAME, t.pending ? t.digit : 0, t.held);
     s->used = n;
 }
 
@@ -337,7 +481,6 @@ static __attribute__((noinline)) void scan_bytes(scanned *s, nx584_reader *r, co
     memset(s, 0, sizeof *s);
     s->verdict = NX584_NONE;
     if (!is_sound(r)) {
-        load_reader(s->reader, r);
         s->verdict = 12;
         return;
     }
@@ -345,7 +488,6 @@ static __attribute__((noinline)) void scan_bytes(scanned *s, nx584_reader *r, co
     if (r->mode == SKIPPING) {
         const uint8_t *at = i < n ? memchr(b + i, r->framing ? ASCII_START : BINARY_START, n - i) : NULL;
         if (!at) {
-            keep(s, r, r->framing, SKIPPING, 0, r->held);
             s->used = n;
             return;
         }
@@ -357,6 +499,7 @@ static __attribute__((noinline)) void scan_bytes(scanned *s, nx584_reader *r, co
         bytes_ascii(s, r, b, n, i);
     else
         bytes_binary(s, r, b, n, i);
+    memcpy(r, &s->head, HEAD);
 }
 
 /* A reader that holds nothing meets a whole frame at once; 0: it does not, and no start before *from. */
@@ -377,81 +520,109 @@ ALWAYS int scan_whole(scanned *s, const nx584_reader *r, const uint8_t *b, size_
     return ascii ? whole_ascii(s, b, n, i) : whole_binary(s, b, n, i);
 }
 
-/* Sixteen bytes of an answer in one store, as a caller that copies it loads them. */
+/* ---- answers: a reader, and what was read with it */
+
 ALWAYS void put_two(uint8_t *to, uint64_t low, uint64_t high)
 {
     two both = {low, high};
     memcpy(to, &both, 16);
 }
 
-/* An answer: the reader, the used bytes, some bits of numbers, the frame's length byte and its message. */
-ALWAYS void put_answer(uint8_t *to, const scanned *s, uint64_t numbers, unsigned bits)
+/* The reader after a whole frame: its head, the frame's bytes, and behind them those that it had. */
+ALWAYS void put_reader(uint8_t *to, const nx584_reader *r, const scanned *s)
+{
+    const uint64_t *f = s->frame.w;
+    const uint8_t *old = (const uint8_t *)r, *where = first(HEAD + s->count);
+    two low = {s->head | f[0] << 8 * HEAD, f[0] >> (64 - 8 * HEAD) | f[1] << 8 * HEAD};
+    two high = {f[1] >> (64 - 8 * HEAD) | f[2] << 8 * HEAD, f[2] >> (64 - 8 * HEAD)};
+    put_over(to, (bytes16)low, old, where);
+    put_over(to + 16, (bytes16)high, old + 16, where + 16);
+    memcpy(to + 32, old + 32, sizeof *r - 32);
+}
+
+/* What was read: the used bytes, some bits of numbers, the frame's length byte and its message. */
+ALWAYS void put_rest(uint8_t *to, const scanned *s, uint64_t numbers, unsigned bits)
 {
     const uint64_t *f = s->body.w;
-    put_two(to, s->reader[0], s->reader[1]);
-    put_two(to + 16, s->reader[2], s->reader[3]);
-    put_two(to + 32, s->used, numbers | f[0] << bits);
-    put_two(to + 48, f[0] >> (64 - bits) | f[1] << bits, f[1] >> (64 - bits) | f[2] << bits);
+    put_two(to, s->used, numbers | f[0] << bits);
+    put_two(to + 16, f[0] >> (64 - bits) | f[1] << bits, f[1] >> (64 - bits) | f[2] << bits);
+    memset(to + 32, 0, sizeof(nx584_reading) - sizeof(nx584_reader) - 32);
 }
 
 ALWAYS void put_reading(nx584_reading *a, const scanned *s)
 {
-    _Static_assert(sizeof *a == 64 && offsetof(nx584_reading, length) == 42, "an answer's words");
-    put_answer((uint8_t *)a, s, s->verdict | s->type << 8, 16);
+    _Static_assert(sizeof *a == 536 && offsetof(nx584_reading, length) == 274, "an answer's words");
+    put_rest((uint8_t *)&a->used, s, s->verdict | s->type << 8, 16);
 }
 
-static __attribute__((noinline)) void read_words(nx584_reading *a, nx584_reader *r, const uint8_t *bytes, size_t n)
+static __attribute__((noinline)) void read_words(nx584_reading *a, const nx584_reader *r, const uint8_t *bytes, size_t n)
 {
     scanned whole, other;
     size_t from;
     if (scan_whole(&whole, r, bytes, n, &from)) {
+        put_reader((uint8_t *)a, r, &whole);
         put_reading(a, &whole);
     } else {
-        scan_bytes(&other, r, bytes, n, from);
+        a->reader = *r;
+        scan_bytes(&other, &a->reader, bytes, n, from);
         put_reading(a, &other);
     }
 }
 
-/* A single byte in a frame, at which no verdict falls; 0: it is another. */
-ALWAYS int read_one(nx584_reading *a, const nx584_reader *from, unsigned c)
+/* What a single byte in a frame does to its reader where no verdict falls at it: the new head, and whether the
+ * byte that it makes is held. 0: it is another. */
+ALWAYS int take_one(const nx584_reader *r, unsigned *c, uint64_t *head, unsigned *is_held)
 {
-    unsigned held = from->held, mode = from->mode, end = from->bytes[0] + 3u, digit = 0;
-    uint64_t x[4], at = offsetof(nx584_reader, bytes) + held;
-    uint8_t *to = (uint8_t *)a;
-    if (mode == SKIPPING || held == 0 || !is_sound(from))
+    unsigned held = r->held, mode = r->mode, end = r->bytes[0] + 3u, digit = 0;
+    if (mode == SKIPPING || held == 0 || !is_sound(r))
         return 0;
-    if (from->framing) {
-        if (held == end || !digits[c])
+    if (r->framing) {
+        if (held == end || !digits[*c])
             return 0;
-        digit = digits[c] & 15;
+        digit = digits[*c] & 15;
         if (mode == DIGIT_PENDING) {
-            c = (unsigned)from->digit << 4 | digit;
+            *c = (unsigned)r->digit << 4 | digit;
             digit = 0;
             mode = IN_FRAME;
         } else {
             mode = DIGIT_PENDING;
         }
     } else {
-        if (held + 1 == end || c == BINARY_START)
+        if (held + 1 == end || *c == BINARY_START)
             return 0;
         if (mode == ESCAPED) {
-            c ^= 0x20;
+            *c ^= 0x20;
             mode = IN_FRAME;
         } else {
-            mode = c == ESCAPE ? ESCAPED : IN_FRAME;
+            mode = *c == ESCAPE ? ESCAPED : IN_FRAME;
         }
     }
-    load_reader(x, from);
-    for (unsigned k = 0; k < 4; k++) {
-        uint64_t hole = at / 8 == k ? (uint64_t)0xFF << at % 8 * 8 : 0;
-        x[k] = (x[k] & ~hole) | (EACH((uint64_t)c) & hole);
-    }
-    held += mode == IN_FRAME;
-    x[0] = (x[0] & ~(uint64_t)0xFFFFFFFFFFFF) | (from->framing != 0) | mode << 8 | digit << 16 | (uint64_t)held << 32;
-    put_two(to, x[0], x[1]);
-    put_two(to + 16, x[2], x[3]);
-    put_two(to + 32, 1, NX584_NONE);
-    put_two(to + 48, 0, 0);
+    *is_held = mode == IN_FRAME;
+    *head = head_of(r->framing != 0, mode, digit, held + *is_held);
+    return 1;
+}
+
+/* Ones in one byte of sixteen, the middle one of the table or none. */
+static const uint8_t single[48] = {[15] = 255};
+
+/* A single byte in a frame, at which no verdict falls; 0: it is another. */
+ALWAYS int read_one(nx584_reading *a, const nx584_reader *from, unsigned c)
+{
+    const uint8_t *old = (const uint8_t *)from;
+    uint8_t *to = (uint8_t *)a;
+    unsigned is_held;
+    uint64_t head;
+    if (!take_one(from, &c, &head, &is_held))
+        return 0;
+    size_t at = HEAD + from->held, row = at / 16 * 16;
+    if (row > sizeof *from - 16)
+        row = sizeof *from - 16;
+    two begin = {head, 0};
+    put_over(to, (bytes16)begin, old, first(HEAD));
+    memcpy(to + 16, old + 16, sizeof *from - 16);
+    put_over(to + row, (bytes16){0} + (uint8_t)c, to + row, single + (is_held ? 15 - (at - row) : 32));
+    put_two(to + sizeof *from, 1, NX584_NONE);
+    memset(to + sizeof *from + 16, 0, sizeof *a - sizeof *from - 16);
     return 1;
 }
 
@@ -539,7 +710,7 @@ ALWAYS size_t write_binary(uint8_t *to, size_t room, const uint8_t *m, size_t n,
 {
     uint64_t ends = (uint64_t)s.one << 8 | s.two;
     if (special(f.w[0]) | special(f.w[1]) | special(f.w[2]) | special(ends)) {
-        uint8_t frame[2 * (NX584_LONGEST + 3) + 2] = {BINARY_START, (uint8_t)n};
+        uint8_t frame[2 * (LONGEST_GOOD + 3) + 2] = {BINARY_START, (uint8_t)n};
         uint8_t last[2] = {s.one, s.two};
         size_t end = 2 + stuff(frame + 2, m, n);
         end += stuff(frame + end, last, 2);
@@ -716,14 +887,14 @@ nx584_overview nx584_view(const uint8_t *table, size_t table_len)
 
 ALWAYS void put_hearing(nx584_hearing *h, const scanned *s, uint8_t *table)
 {
-    _Static_assert(sizeof *h == 64 && offsetof(nx584_hearing, length) == 43, "an answer's words");
+    _Static_assert(sizeof *h == 536 && offsetof(nx584_hearing, length) == 275, "an answer's words");
     uint64_t reply = nx584_reply((uint8_t)s->verdict, (uint8_t)s->type);
     if (s->verdict == 0) {
         uint8_t frame[WORDS];
         memcpy(frame, s->body.w, WORDS);
         store(table, frame + 1);
     }
-    put_answer((uint8_t *)h, s, s->verdict | s->type << 8 | reply << 16, 24);
+    put_rest((uint8_t *)&h->used, s, s->verdict | s->type << 8 | reply << 16, 24);
 }
 
 nx584_hearing nx584_hear(nx584_reader reader, uint8_t *table, size_t table_len, const uint8_t *bytes,
@@ -737,9 +908,11 @@ nx584_hearing nx584_hear(nx584_reader reader, uint8_t *table, size_t table_len, 
         return refused;
     }
     if (scan_whole(&whole, &reader, bytes, bytes_len, &from)) {
+        put_reader((uint8_t *)&h, &reader, &whole);
         put_hearing(&h, &whole, table);
     } else {
-        scan_bytes(&other, &reader, bytes, bytes_len, from);
+        h.reader = reader;
+        scan_bytes(&other, &h.reader, bytes, bytes_len, from);
         put_hearing(&h, &other, table);
     }
     return h;

@@ -7,6 +7,7 @@
 enum { BINARY_START = 0x7E, ESCAPE = 0x7D, ASCII_START = 0x0A, ASCII_STOP = 0x0D };
 enum { SKIPPING, IN_FRAME, ESCAPED, DIGIT_PENDING };
 enum { ZONE = 8, PARTITIONS = 2048, PARTITION = 9, SYSTEM = 2120 };
+enum { LONGEST_GOOD = 18 }; /* of the 41 messages, and so of what is written and handed out */
 
 static const uint8_t lengths[64] = {
     [0x01] = 11, [0x03] = 18, [0x04] = 8,  [0x05] = 10, [0x06] = 9, [0x07] = 9,  [0x08] = 12,
@@ -42,7 +43,7 @@ static int clock_is_good(const uint8_t *m)
 /* "Only these values are checked", for a message that has the length of its number. */
 static int values_are_good(const uint8_t *m);
 
-/* 0, or 6, 7, 8 for a message of 1 to 18 bytes. */
+/* 0, or 6, 7, 8 for a message of 1 to 255 bytes; 0 only for one of at most LONGEST_GOOD. */
 static uint8_t verdict_of(const uint8_t *m, size_t n)
 {
     unsigned wanted = m[0] & 0x40 ? 0 : lengths[m[0] & 0x3F];
@@ -84,7 +85,7 @@ static int is_sound(const nx584_reader *r)
     if (r->held == 0)
         return 1;
     unsigned length = r->bytes[0];
-    if (length - 1 >= NX584_LONGEST)
+    if (length == 0)
         return 0;
     return r->held <= length + 2 || (r->framing && r->held == length + 3 && r->mode != DIGIT_PENDING);
 }

@@ -3,8 +3,10 @@
 
 use std::slice;
 
-const VERSION: u32 = 2;
-const LONGEST: usize = 18;
+const VERSION: u32 = 3;
+const LONGEST: usize = 255;
+/// Of the 41 messages, and so of what is written and handed out.
+const LONGEST_GOOD: usize = 18;
 const TABLE_BYTES: usize = 2132;
 const SLOTS: usize = 8;
 const LONGEST_COMMAND: usize = 13;
@@ -183,7 +185,7 @@ fn verdict_of(message: &[u8]) -> u8 {
     }
 }
 
-/// Both sums; 18 bytes and their prefix sums stay far below 2^32.
+/// Both sums; 256 bytes and their prefix sums stay far below 2^32.
 fn sums(bytes: &[u8]) -> (u8, u8) {
     let (mut a, mut b) = (0u32, 0u32);
     for &byte in bytes {
@@ -205,7 +207,7 @@ impl Reader {
         }
         let length = u16::from(self.bytes[0]);
         let stop_due = self.framing != 0 && self.held == length + 3 && self.mode != DIGIT_PENDING;
-        (1..=LONGEST as u16).contains(&length) && (self.held <= length + 2 || stop_due)
+        length != 0 && (self.held <= length + 2 || stop_due)
     }
 
     /// What is left of the fields that document 01 does not know: the same reader, each state once.
@@ -232,7 +234,7 @@ impl Reading {
     /// The verdict of a whole frame: its length byte, message and sums are the reader's bytes.
     fn whole(&mut self, used: usize) {
         let bytes = &self.reader.bytes;
-        let n = usize::from(bytes[0]).min(LONGEST);
+        let n = usize::from(bytes[0]);
         let mut verdict = 5;
         if (bytes[n + 1], bytes[n + 2]) == sums(&bytes[..n + 1]) {
             let message = &bytes[1..n + 1];
@@ -261,11 +263,11 @@ impl Reading {
                 mode = ESCAPED;
                 continue;
             }
-            self.reader.bytes[held] = byte;
-            held += 1;
-            if held == 1 && !(1..=LONGEST as u8).contains(&byte) {
+            if held == 0 && byte == 0 {
                 return self.decided(i + 1, 4);
             }
+            self.reader.bytes[held] = byte;
+            held += 1;
             if held == usize::from(self.reader.bytes[0]) + 3 {
                 return self.whole(i + 1);
             }
@@ -294,11 +296,11 @@ impl Reading {
                 None => pending = Some(digit),
                 Some(high) => {
                     let value = high << 4 | digit;
-                    self.reader.bytes[held] = value;
-                    held += 1;
-                    if held == 1 && !(1..=LONGEST as u8).contains(&value) {
+                    if held == 0 && value == 0 {
                         return self.decided(i + 1, 4);
                     }
+                    self.reader.bytes[held] = value;
+                    held += 1;
                 }
             }
         }
@@ -312,7 +314,7 @@ impl Reading {
 fn read(reader: Reader, bytes: &[u8]) -> Reading {
     let mut reading =
         Reading { reader, used: 0, verdict: NONE, type_byte: 0, length: 0, message: [0; LONGEST] };
-    if !reader.is_sound() {
+    if !reading.reader.is_sound() {
         reading.verdict = 12;
         return reading;
     }
@@ -342,7 +344,7 @@ fn read(reader: Reader, bytes: &[u8]) -> Reading {
 // ---- writer
 
 struct Frame {
-    bytes: [u8; 2 * (LONGEST + 3) + 2],
+    bytes: [u8; 2 * (LONGEST_GOOD + 3) + 2],
     length: usize,
 }
 
@@ -381,13 +383,13 @@ fn write(message: &[u8], framing: u8, out: &mut [u8], place: usize) -> Result<us
         verdict => return Err(verdict),
     }
     let n = message.len();
-    let mut body = [0; LONGEST + 3];
+    let mut body = [0; LONGEST_GOOD + 3];
     body[0] = n as u8;
     body[1..n + 1].copy_from_slice(message);
     let (sum1, sum2) = sums(&body[..n + 1]);
     body[n + 1] = sum1;
     body[n + 2] = sum2;
-    let mut frame = Frame { bytes: [0; 2 * (LONGEST + 3) + 2], length: 0 };
+    let mut frame = Frame { bytes: [0; 2 * (LONGEST_GOOD + 3) + 2], length: 0 };
     if framing == 0 {
         frame.binary(&body[..n + 3]);
     } else {
@@ -500,24 +502,18 @@ fn view(table: &[u8]) -> Overview {
 }
 
 fn hear(reader: Reader, table: &mut [u8], bytes: &[u8]) -> Hearing {
-    let mut hearing =
-        Hearing { reader, used: 0, verdict: 11, type_byte: 0, reply: 0, length: 0, message: [0; LONGEST] };
     let table: &mut [u8; TABLE_BYTES] = match table.try_into() {
         Ok(table) => table,
-        Err(_) => return hearing,
+        Err(_) => {
+            let message = [0; LONGEST];
+            return Hearing { reader, used: 0, verdict: 11, type_byte: 0, reply: 0, length: 0, message };
+        }
     };
-    let reading = read(reader, bytes);
-    if reading.verdict == 0 {
-        store(table, &reading.message[..usize::from(reading.length)]);
+    let Reading { reader, used, verdict, type_byte, length, message } = read(reader, bytes);
+    if verdict == 0 {
+        store(table, &message[..usize::from(length)]);
     }
-    hearing.reader = reading.reader;
-    hearing.used = reading.used;
-    hearing.verdict = reading.verdict;
-    hearing.type_byte = reading.type_byte;
-    hearing.reply = reply(reading.verdict, reading.type_byte);
-    hearing.length = reading.length;
-    hearing.message = reading.message;
-    hearing
+    Hearing { reader, used, verdict, type_byte, reply: reply(verdict, type_byte), length, message }
 }
 
 // ---- questions of a table; a refused one is all zero but for its number

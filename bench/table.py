@@ -15,7 +15,7 @@ def kind_of(program):
 
 
 def print_row(what, cells, ratios):
-    print('%-40s' % what + ''.join('%9s %-5s' % cell for cell in cells) + ' ' + ''.join('%9s' % r for r in ratios))
+    print('%-58s' % what + ''.join('%9s %-5s' % cell for cell in cells) + ' ' + ''.join('%9s' % r for r in ratios))
 
 
 def print_head(programs):
