@@ -1,4 +1,4 @@
-/* The careful plain C: nx584.h as one writes it for a small unit from documents 003 and 01, with their
+/* The careful plain C: nx584.h as one writes it for a small unit from documents 003, 01 and 02, with their
  * eight-bit sums and one step of one state machine for every byte. tests/run holds it to the second
  * program as it holds the library. */
 #include "plain.h"
@@ -315,12 +315,16 @@ nx584_overview nx584_view(const uint8_t *table, size_t table_len)
 nx584_hearing nx584_hear(nx584_reader reader, uint8_t *table, size_t table_len, const uint8_t *bytes,
                          size_t bytes_len)
 {
+    nx584_hearing h = {.verdict = 11};
     if (table_len != NX584_TABLE_BYTES) {
-        nx584_hearing refused = {.reader = reader, .verdict = 11};
-        return refused;
+        h.reader = reader;
+        return h;
     }
     nx584_reading a = nx584_read(reader, bytes, bytes_len);
-    nx584_hearing h = {.reader = a.reader, .used = a.used, .verdict = a.verdict, .type = a.type};
+    h.reader = a.reader;
+    h.used = a.used;
+    h.verdict = a.verdict;
+    h.type = a.type;
     h.reply = nx584_reply(a.verdict, a.type);
     h.length = a.length;
     memcpy(h.message, a.message, a.length);

@@ -53,8 +53,8 @@ ALWAYS const uint8_t *first(size_t n)
     return ones + CHARACTERS - n;
 }
 
-/* Sixteen bytes in one store, as a caller that copies an answer loads them: those of v where the others of
- * `where` are ones, else the old ones. */
+/* Sixteen bytes in one store, as a caller that copies an answer loads them: those of v where there are ones in
+ * `where`, else the old ones. */
 ALWAYS void put_over(uint8_t *to, bytes16 v, const uint8_t *old, const uint8_t *where)
 {
     bytes16 mask = load_vector(where);
@@ -141,8 +141,8 @@ ALWAYS uint32_t total_of(quads v)
 }
 
 /* The sums of up to 256 bytes. Sum 2 counts byte j of a row 16 - j times, and 16 times more for each row after
- * it; what that is too much in a last row that is not full goes off at the end. No lane of 16 bits overflows
- * in 16 rows: a column has at most 16 * 255, and it counted for the rows after 120 * 255. */
+ * it; what that is too much where the last row is not full is taken off at the end. No lane of 16 bits overflows
+ * in 16 rows: a column's sum is at most 16 * 255, and over the rows after each byte 120 * 255. */
 ALWAYS sums sums_of_rows(const uint8_t *p, uint32_t n)
 {
     const pairs even_times = {16, 14, 12, 10, 8, 6, 4, 2}, odd_times = even_times - 1;
@@ -268,7 +268,7 @@ ALWAYS int whole_binary(scanned *s, const uint8_t *b, size_t n, size_t i)
         decided(s, 0, i + 1, length ? 1 : 4);
         return 1;
     }
-    if (length > LONGEST_GOOD || left < length + 3)
+    if (length > LONGEST_GOOD || left < length + 3) /* above it is the 7Dh of an escaped length, too */
         return 0;
     if (left < WORDS) {
         memset(near_end, 0, WORDS);
@@ -343,8 +343,8 @@ ALWAYS unsigned run_binary(uint8_t *to, const uint8_t *from, unsigned most)
     return count;
 }
 
-/* A frame that is being taken: how many bytes of it are held and how many it has, the mode or whether a digit
- * is pending, and that digit. */
+/* A frame that is being taken: how many bytes of it are held, and at how many it ends; the mode; whether a digit
+ * is pending, and which. */
 typedef struct {
     unsigned held, end, mode, pending, digit;
 } taking;
@@ -602,8 +602,8 @@ ALWAYS int take_one(const nx584_reader *r, unsigned *c, uint64_t *head, unsigned
     return 1;
 }
 
-/* Ones in one byte of sixteen, the middle one of the table or none. */
-static const uint8_t single[48] = {[15] = 255};
+/* Ones in byte k of the sixteen from 15 - k on, and in none of those from 16 on. */
+static const uint8_t single[32] = {[15] = 255};
 
 /* A single byte in a frame, at which no verdict falls; 0: it is another. */
 ALWAYS int read_one(nx584_reading *a, const nx584_reader *from, unsigned c)
@@ -620,7 +620,7 @@ ALWAYS int read_one(nx584_reading *a, const nx584_reader *from, unsigned c)
     two begin = {head, 0};
     put_over(to, (bytes16)begin, old, first(HEAD));
     memcpy(to + 16, old + 16, sizeof *from - 16);
-    put_over(to + row, (bytes16){0} + (uint8_t)c, to + row, single + (is_held ? 15 - (at - row) : 32));
+    put_over(to + row, (bytes16){0} + (uint8_t)c, to + row, single + (is_held ? 15 - (at - row) : 16));
     put_two(to + sizeof *from, 1, NX584_NONE);
     memset(to + sizeof *from + 16, 0, sizeof *a - sizeof *from - 16);
     return 1;
@@ -904,10 +904,10 @@ nx584_hearing nx584_hear(nx584_reader reader, uint8_t *table, size_t table_len, 
     scanned whole, other;
     size_t from;
     if (table_len != NX584_TABLE_BYTES) {
-        nx584_hearing refused = {.reader = reader, .verdict = 11};
-        return refused;
-    }
-    if (scan_whole(&whole, &reader, bytes, bytes_len, &from)) {
+        scanned refused = {.verdict = 11};
+        h.reader = reader;
+        put_hearing(&h, &refused, table);
+    } else if (scan_whole(&whole, &reader, bytes, bytes_len, &from)) {
         put_reader((uint8_t *)&h, &reader, &whole);
         put_hearing(&h, &whole, table);
     } else {
