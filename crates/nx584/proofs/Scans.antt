@@ -5,7 +5,7 @@ use mathlib.Core.Path.{_≡_, refl, sym, ap, _∙_}
 use mathlib.Core.Bool.{Bool, true, false, cond}
 use mathlib.Core.List.{List, [], _∷_, map, head-eq-of-cons-eq, cons≢nil, nil≢cons}
 use lib.Dec.{eqb}
-use lib.ListN.{length, take, drop, length-drop}
+use lib.ListN.{length, take, drop, replicate, length-drop}
 use lib.Seq.{length-take-le, take-append-seam}
 use Rattle.standard.specs.declared.Said.{Said}
 use Rattle.standard.specs.declared.Said.the-variants.{Silent, Gave}
@@ -66,9 +66,10 @@ module _ (r : Reader) (bs : List ℕ) (reader : Reader) (used : ℕ) (said : Sai
 -- ---- what `scan_c` promises
 
 -- a reader that is not sound
-pub scans-refused : (c : CReader) (bs : List ℕ) → soundC c ≡ false
+pub scans-refused : (c : CReader) (bs : List ℕ) → length (c .bytes) ≡ longest + 3 → soundC c ≡ false
     → CScans c bs (scannedAs (c .framing) (c .mode) (c .digit) (c .held) 12) (c .bytes)
-scans-refused c bs h = record { says = ap cReading (sym (read-refused c bs h)); few = omega arith }
+scans-refused c bs size h =
+    record { says = ap cReading (sym (read-refused c bs h)); few = omega arith; sized = size }
 
 -- the numbers of a reader and of a verdict
 abbrev pub scannedWith : CReader → ℕ → Verdict → CScanned
@@ -107,18 +108,22 @@ scans-sound c bs reader used said h size w =
           ∙ ap cReading
           (took-c (readOf (readerFor c) bs) reader used said (w .gives) (w .uses) ∙ sym (read-took c bs h));
       few = rw (length-said said) fits;
+      sized = size;
     }
 
 -- ---- the message of a scan
 
-module _ (c : CReader) (bs : List ℕ) (s : CScanned) (after : List ℕ) (w : CScans c bs s after)
-    (size : length after ≡ longest + 3) where
+module _ (c : CReader) (bs : List ℕ) (s : CScanned) (after : List ℕ) (w : CScans c bs s after) where
   -- where it stands, as code finds it
   pub message-at : take (s .length + 1 - 1) (drop 1 after) ≡ messageIn s after
   message-at = let same : s .length + 1 - 1 ≡ s .length = omega arith in rw same
 
+  -- and where there is none
+  pub no-message-at : s .length ≡ 0 → replicate longest 0 ≡ padded (messageIn s after)
+  no-message-at e = rw e
+
   whole : length (messageIn s after) ≡ s .length
-  whole = length-take-le (s .length) (drop 1 after) (omega (arith, w .few, length-drop 1 after))
+  whole = length-take-le (s .length) (drop 1 after) (omega (arith, w .few, w .sized, length-drop 1 after))
 
   -- in its array it is the same
   in-array : take (s .length) (padded (messageIn s after)) ≡ messageIn s after

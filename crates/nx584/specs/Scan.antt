@@ -1,9 +1,9 @@
 -- A read by numbers with the frame's bytes in lent memory: the words of private contracts. Assumes nothing.
-use Prim.Native.Nat.{ℕ, _≤_}
+use Prim.Native.Nat.{ℕ, _+_, _≤_}
 use mathlib.Core.Path.{_≡_}
 use mathlib.Core.List.{List}
-use lib.ListN.{take, drop}
-use Rattle.standard.specs.Messages.{longestKnown}
+use lib.ListN.{length, take, drop}
+use Rattle.standard.specs.Messages.{longest, longestKnown}
 use Rattle.nx584.specs.declared.CReader.{CReader}
 use Rattle.nx584.specs.declared.CReading.{CReading}
 use Rattle.nx584.specs.declared.CScanned.{CScanned}
@@ -30,17 +30,21 @@ readerIn s bytes = record { framing = s .framing; mode = s .mode; digit = s .dig
 abbrev pub messageIn : CScanned → List ℕ → List ℕ
 messageIn s bytes = take (s .length) (drop 1 bytes)
 
-abbrev pub readingIn : CScanned → List ℕ → CReading
-readingIn s bytes = record {
+abbrev pub tookIn : CScanned → List ℕ → List ℕ → CReading
+tookIn s bytes message = record {
   reader = readerIn s bytes;
   used = s .used;
   verdict = s .verdict;
   «type_byte» = s .«type_byte»;
   length = s .length;
-  message = padded (messageIn s bytes);
+  message = message;
 }
 
--- the scan's numbers and the frame's bytes after it are the read's answer, and its message is one of the 41
+abbrev pub readingIn : CScanned → List ℕ → CReading
+readingIn s bytes = tookIn s bytes (padded (messageIn s bytes))
+
+-- the scan's numbers and the frame's bytes after it are the read's answer; its message is one of the 41, and stands in them
 pub record CScans (c : CReader) (bs : List ℕ) (s : CScanned) (after : List ℕ) : Type 0 where
   pub says : readingIn s after ≡ cReading (cRead c bs)
   pub few : s .length ≤ longestKnown
+  pub sized : length after ≡ longest + 3

@@ -27,8 +27,8 @@ ghost use Rattle.reader.specs.Read.{freshReader};
 ghost use Rattle.commands.specs.Commands.{endedNumber, answerOf, after, takeOf, tickOf, toldOf};
 ghost use Rattle.nx584.specs.Line.{cAnswer};
 ghost use Rattle.nx584.specs.Records.{cZone, cPartition, cSystem};
-ghost use Rattle.nx584.specs.Boundary.{framingFor, framingNumber, modeNumber, digitNumber, pendingFor, modeFor, cReader, modeOk, numbersSaid, padded, cRefused, cReading, cHearing, cRead, CHears, CWrote, cGroup, cOverview};
-ghost use Rattle.nx584.specs.Scan.{scannedAs, readerIn, CScans};
+ghost use Rattle.nx584.specs.Boundary.{framingFor, framingNumber, modeNumber, digitNumber, pendingFor, modeFor, cReader, modeOk, numbersSaid, padded, cRefused, cReading, withReply, cHearing, cRead, CHears, CWrote, cGroup, cOverview};
+ghost use Rattle.nx584.specs.Scan.{scannedAs, readerIn, tookIn, CScans};
 
 // NX584_VERSION: of the header that this library goes with.
 const VERSION: u32 = 3;
@@ -363,6 +363,35 @@ fn reader_in(scanned: CScanned, bytes: [u8; MOST]) -> CReader
     }
 }
 
+// What was read. Most calls hand out no message: theirs is zero where the answer goes back, and is
+// not copied.
+fn took(scanned: CScanned, frame: [u8; MOST], message: [u8; LONGEST]) -> CReading
+    ensures { λ r. ⌜ r ≡ tookIn scanned frame message ⌝ }
+{
+    CReading {
+        reader: reader_in(scanned, frame),
+        used: scanned.used,
+        verdict: scanned.verdict,
+        type_byte: scanned.type_byte,
+        length: scanned.length,
+        message,
+    }
+}
+
+fn heard(scanned: CScanned, frame: [u8; MOST], reply: u8, message: [u8; LONGEST]) -> CHearing
+    ensures { λ r. ⌜ r ≡ withReply (tookIn scanned frame message) reply ⌝ }
+{
+    CHearing {
+        reader: reader_in(scanned, frame),
+        used: scanned.used,
+        verdict: scanned.verdict,
+        type_byte: scanned.type_byte,
+        reply,
+        length: scanned.length,
+        message,
+    }
+}
+
 // 11: the reader as it was handed in, and no reply.
 fn no_table(reader: CReader) -> CHearing
     ensures { λ r. ⌜ r ≡ cHearing (cRefused reader 11) ⌝ }
@@ -409,16 +438,11 @@ pub extern "C" fn nx584_read(reader: CReader, bytes: &[u8]) -> CReading
         &mut frame,
         bytes,
     );
-    let end = scanned.length as usize + 1;
-    let message = in_array(&frame[1..end]);
-    CReading {
-        reader: reader_in(scanned, frame),
-        used: scanned.used,
-        verdict: scanned.verdict,
-        type_byte: scanned.type_byte,
-        length: scanned.length,
-        message,
+    if scanned.length == 0 {
+        return took(scanned, frame, [0u8; LONGEST]);
     }
+    let end = scanned.length as usize + 1;
+    took(scanned, frame, in_array(&frame[1..end]))
 }
 
 // A read of one byte.
@@ -507,16 +531,11 @@ pub extern "C" fn nx584_hear(reader: CReader, table: &mut [u8], bytes: &[u8]) ->
     );
     let end = scanned.length as usize + 1;
     store(table, scanned.verdict, &frame[1..end]);
-    let message = in_array(&frame[1..end]);
-    CHearing {
-        reader: reader_in(scanned, frame),
-        used: scanned.used,
-        verdict: scanned.verdict,
-        type_byte: scanned.type_byte,
-        reply: nx584_reply(scanned.verdict, scanned.type_byte),
-        length: scanned.length,
-        message,
+    let reply = nx584_reply(scanned.verdict, scanned.type_byte);
+    if scanned.length == 0 {
+        return heard(scanned, frame, reply, [0u8; LONGEST]);
     }
+    heard(scanned, frame, reply, in_array(&frame[1..end]))
 }
 
 // What a table says of a zone.

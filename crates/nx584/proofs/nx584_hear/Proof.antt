@@ -10,9 +10,10 @@ use Rattle.standard.specs.Replies.{replyOf}
 use Rattle.standard.specs.Table.{tableAfter, appliedTo}
 use Rattle.standard.proofs.Questions.{asked-whole, whole-asked}
 use Rattle.nx584.specs.declared.CReading.{CReading}
-use Rattle.nx584.specs.Boundary.{padded, withReply, cHearing, cRead, CGiven}
+use Rattle.nx584.specs.Boundary.{padded, withReply, cHearing, cRead, CGiven, CHears}
+use Rattle.nx584.specs.Scan.{messageIn, tookIn}
 use Rattle.nx584.proofs.InC.{heard-c, heard-refused, hear-refused, reply-said}
-use Rattle.nx584.proofs.Scans.{message-at, scanned-stored}
+use Rattle.nx584.proofs.Scans.{message-at, no-message-at, scanned-stored}
 use borrow.Author.Needs.{needs}
 use Rattle.nx584.proofs.nx584_hear.Statement.{statement}
 use Rattle.nx584.proofs.nx584_hear.Tie as tie
@@ -23,6 +24,37 @@ call c = c .before .before .before .before .before .before .before .before
 
 abbrev frame : tie.After-scan-c → List ℕ
 frame c = c .scan-c .last .1 .1 .1 .1 .0
+
+-- the scan before a reply
+abbrev scan : tie.After-nx584-reply → tie.After-scan-c
+scan c = c .before .before .before .before .before .before .before .before .before
+
+-- the answer, with the message in its array, and the table
+answer : (c : tie.After-nx584-reply) (message : List ℕ) → let s = scan c .scan-c .result in
+    message ≡ padded (messageIn s (frame (scan c)))
+    → let a = call (scan c) .args in
+    CHears (a .reader) (a .table .now) (a .bytes .now)
+    (withReply (tookIn s (frame (scan c)) message) (c .nx584-reply .result)) (c .before .before .before .store .last .0)
+answer c message e =
+    let s = scan c .scan-c .result in
+    let w = scan c .scan-c .ensures in
+    let a = call (scan c) .args in
+    let t = a .table .now in
+    let bs = a .bytes .now in
+    let test = scan c .before .before .before in
+    let line = heard-c (a .reader) t bs (asked-whole t (sym (test .before .refusal .ensures) ∙ test .if1 .left)) in
+    let took = ap (tookIn s (frame (scan c))) e ∙ w .says in
+    let reply = c .nx584-reply .ensures ∙ ap (λ (x : CReading). replyOf (x .verdict) (x .«type_byte»)) (w .says)
+    ∙ reply-said (cRead (a .reader) bs .said) in
+    record {
+      says = ap₂ withReply took reply ∙ sym (ap cHearing line);
+      leaves =
+          c .before .before .before .store .ensures
+          ∙ ap (λ (m : List ℕ). cond (eqb (s .verdict) 0) (appliedTo t m) t)
+          (message-at (a .reader) bs s (frame (scan c)) w)
+          ∙ scanned-stored (a .reader) bs s (frame (scan c)) w t
+          ∙ sym (ap (λ (x : CGiven). tableAfter t (x .said)) line);
+    }
 
 refusal-requires : tie.Need-refusal-requires
 refusal-requires c κs = search needs
@@ -62,11 +94,29 @@ part-store-start c = search needs
 part-store-end : tie.Need-part-store-end
 part-store-end c =
     let scan = c .before .before .before .before in
-    let size : length (frame scan) ≡ longest + 3 = search needs in
-    omega (arith, scan .scan-c .ensures .few)
+    omega (arith, scan .scan-c .ensures .sized, scan .scan-c .ensures .few)
 
 store-requires : tie.Need-store-requires
 store-requires c κs = search needs
+
+nx584-reply-requires : tie.Need-nx584-reply-requires
+nx584-reply-requires c κs = search needs
+
+heard-requires : tie.Need-heard-requires
+heard-requires c κs = search needs
+
+same-length-2 : tie.Need-same-length-2
+same-length-2 c = search needs
+
+returns-2 : tie.Need-returns-2
+returns-2 c =
+    let reply = c .before .before .before in
+    let from = scan reply in
+    let a = call from .args in
+    rw (c .heard .ensures)
+    (answer reply _
+    (no-message-at (a .reader) (a .bytes .now) (from .scan-c .result) (frame from) (from .scan-c .ensures)
+    (c .before .if2 .taken)))
 
 sub-in-array : tie.Need-sub-in-array
 sub-in-array c = search needs
@@ -76,49 +126,29 @@ part-in-array-start c = search needs
 
 part-in-array-end : tie.Need-part-in-array-end
 part-in-array-end c =
-    let scan = c .before .before .before .before .before .before .before .before .before in
-    let size : length (frame scan) ≡ longest + 3 = search needs in
-    omega (arith, scan .scan-c .ensures .few)
+    let from = scan (c .before .before .before) in
+    omega (arith, from .scan-c .ensures .sized, from .scan-c .ensures .few)
 
 in-array-requires : tie.Need-in-array-requires
 in-array-requires c κs =
-    let scan = c .before .before .before .before .before .before .before .before .before .before in
-    simp length-take (omega (arith, scan .scan-c .ensures .few))
+    let from = scan (c .before .before .before .before) in
+    simp length-take (omega (arith, from .scan-c .ensures .few))
 
-reader-in-requires : tie.Need-reader-in-requires
-reader-in-requires c κs = search needs
+heard-requires-2 : tie.Need-heard-requires-2
+heard-requires-2 c κs = search needs
 
-nx584-reply-requires : tie.Need-nx584-reply-requires
-nx584-reply-requires c κs = search needs
+same-length-3 : tie.Need-same-length-3
+same-length-3 c = search needs
 
-same-length-2 : tie.Need-same-length-2
-same-length-2 c = search needs
-
-returns-2 : tie.Need-returns-2
-returns-2 c =
-    let stored = c .before .before .before .before .before .before .before in
-    let scan = stored .before .before .before .before .before .before in
-    let s = scan .scan-c .result in
-    let w = scan .scan-c .ensures in
-    let a = call scan .args in
-    let t = a .table .now in
-    let bs = a .bytes .now in
-    let size : length (frame scan) ≡ longest + 3 = search needs in
-    let at-frame = message-at (a .reader) bs s (frame scan) w size in
-    let test = scan .before .before .before in
-    let whole = asked-whole t (sym (test .before .refusal .ensures) ∙ test .if1 .left) in
-    let line = heard-c (a .reader) t bs whole in
-    let message = c .before .before .in-array .ensures ∙ ap padded at-frame in
-    let reply = c .nx584-reply .ensures ∙ ap (λ (x : CReading). replyOf (x .verdict) (x .«type_byte»)) (w .says)
-    ∙ reply-said (cRead (a .reader) bs .said) in
-    record {
-      says = rw (c .before .reader-in .ensures, message) (ap₂ withReply (w .says) reply) ∙ sym (ap cHearing line);
-      leaves =
-          stored .store .ensures
-          ∙ ap (λ (m : List ℕ). cond (eqb (s .verdict) 0) (appliedTo t m) t) at-frame
-          ∙ scanned-stored (a .reader) bs s (frame scan) w size t
-          ∙ sym (ap (λ (x : CGiven). tableAfter t (x .said)) line);
-    }
+returns-3 : tie.Need-returns-3
+returns-3 c =
+    let reply = c .before .before .before .before .before .before in
+    let from = scan reply in
+    let a = call from .args in
+    rw (c .heard2 .ensures)
+    (answer reply _
+    (c .before .in-array .ensures ∙ ap padded
+    (message-at (a .reader) (a .bytes .now) (from .scan-c .result) (frame from) (from .scan-c .ensures))))
 
 pub nx584-hear-spec : {M : Type 1} → statement M
 nx584-hear-spec =
@@ -136,11 +166,14 @@ nx584-hear-spec =
     part-store-start
     part-store-end
     store-requires
+    nx584-reply-requires
+    heard-requires
+    same-length-2
+    returns-2
     sub-in-array
     part-in-array-start
     part-in-array-end
     in-array-requires
-    reader-in-requires
-    nx584-reply-requires
-    same-length-2
-    returns-2)
+    heard-requires-2
+    same-length-3
+    returns-3)

@@ -74,7 +74,7 @@ returns c =
     let test = c .before in
     let s = test .before .before .before .before in
     let h = no-mode (asked s) (sym (test .before .mode-ok .ensures) ∙ not-true _ (test .if1 .taken)) in
-    rw (c .not-sound .ensures) (scans-refused (asked s) (s .args .bytes .now) h)
+    rw (c .not-sound .ensures) (scans-refused (asked s) (s .args .bytes .now) (s .pre) h)
 
 framing-for-requires : tie.Need-framing-for-requires
 framing-for-requires c κs = search needs
@@ -102,7 +102,7 @@ returns-2 c =
     let z = ap (λ (v : Verdict). v .number) (sym (numbers .numbers .ensures)) ∙ c .before .if2 .taken in
     let h = twelve (readerFor s) (given scan) (after scan) _ _ (told scan) z in
     let stays = twelve-stays (readerFor s) (given scan) (after scan) _ _ (told scan) h in
-    rw (c .not-sound2 .ensures, stays) (scans-refused s (given scan) (numbered scan ∙ h))
+    rw (c .not-sound2 .ensures, stays) (scans-refused s (given scan) (call scan .pre) (numbered scan ∙ h))
 
 framing-of-requires : tie.Need-framing-of-requires
 framing-of-requires c κs = search needs
