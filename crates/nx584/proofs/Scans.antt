@@ -22,7 +22,7 @@ use Rattle.nx584.specs.declared.CReading.{CReading}
 use Rattle.nx584.specs.declared.CScanned.{CScanned}
 use Rattle.nx584.specs.Boundary.{readerFor, soundC, numberSaid, numbersSaid, lengthSaid}
 use Rattle.nx584.specs.Boundary.{padded, cReader, cReading, cRead}
-use Rattle.nx584.specs.Scan.{scannedAs, messageIn, readingIn, CScans}
+use Rattle.nx584.specs.Scan.{scannedAs, messageIn, tookIn, readingIn, CScans}
 use Rattle.nx584.proofs.InC.{c-sound, read-took, read-refused, took-fits, took-c, length-said, stored-c}
 
 -- ---- 12
@@ -121,6 +121,14 @@ module _ (c : CReader) (bs : List ℕ) (s : CScanned) (after : List ℕ) (w : CS
   -- and where there is none
   pub no-message-at : s .length ≡ 0 → replicate longest 0 ≡ padded (messageIn s after)
   no-message-at e = rw e
+
+  -- the answer with a message in its array, and without one
+  pub took-message : (message : List ℕ) → message ≡ padded (take (s .length + 1 - 1) (drop 1 after))
+      → tookIn s after message ≡ cReading (cRead c bs)
+  took-message message e = ap (tookIn s after) (e ∙ ap padded message-at) ∙ w .says
+
+  pub took-none : s .length ≡ 0 → tookIn s after (replicate longest 0) ≡ cReading (cRead c bs)
+  took-none e = ap (tookIn s after) (no-message-at e) ∙ w .says
 
   whole : length (messageIn s after) ≡ s .length
   whole = length-take-le (s .length) (drop 1 after) (omega (arith, w .few, w .sized, length-drop 1 after))

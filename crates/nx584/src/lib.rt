@@ -445,13 +445,26 @@ pub extern "C" fn nx584_read(reader: CReader, bytes: &[u8]) -> CReading
     took(scanned, frame, in_array(&frame[1..end]))
 }
 
-// A read of one byte.
+// A read of one byte, which `nx584_read` could do too: its whole answer would be copied once more.
 #[no_mangle]
 pub extern "C" fn nx584_step(reader: CReader, byte: u8) -> CReading
     ensures { λ r. ⌜ r ≡ cReading (cRead reader (byte ∷ [])) ⌝ }
 {
     let one = [byte];
-    nx584_read(reader, &one)
+    let mut frame = reader.bytes;
+    let scanned = scan_c(
+        reader.framing,
+        reader.mode,
+        reader.digit,
+        reader.held,
+        &mut frame,
+        &one,
+    );
+    if scanned.length == 0 {
+        return took(scanned, frame, [0u8; LONGEST]);
+    }
+    let end = scanned.length as usize + 1;
+    took(scanned, frame, in_array(&frame[1..end]))
 }
 
 // The frame of a message, into the part of `out` that starts at `place`.

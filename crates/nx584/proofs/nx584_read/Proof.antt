@@ -1,12 +1,9 @@
-use Prim.Native.Nat.{ℕ, _+_, _≤_}
+use Prim.Native.Nat.{ℕ}
 use native.Mathlib.Omega.{arith}
-use mathlib.Core.Path.{_≡_, ap, _∙_}
+use mathlib.Core.Path.{_∙_}
 use mathlib.Core.List.{List}
-use lib.ListN.{length, length-take}
-use Rattle.standard.specs.Messages.{longest}
-use Rattle.nx584.specs.Boundary.{padded, cReading, cRead}
-use Rattle.nx584.specs.Scan.{messageIn, tookIn}
-use Rattle.nx584.proofs.Scans.{message-at, no-message-at}
+use lib.ListN.{length-take}
+use Rattle.nx584.proofs.Scans.{took-message, took-none}
 use borrow.Author.Needs.{needs}
 use Rattle.nx584.proofs.nx584_read.Statement.{statement}
 use Rattle.nx584.proofs.nx584_read.Tie as tie
@@ -17,11 +14,6 @@ call c = c .before .before .before .before
 
 abbrev frame : tie.After-scan-c → List ℕ
 frame c = c .scan-c .last .1 .1 .1 .1 .0
-
--- the answer, with the message in its array
-answer : (c : tie.After-scan-c) (message : List ℕ) → message ≡ padded (messageIn (c .scan-c .result) (frame c))
-    → tookIn (c .scan-c .result) (frame c) message ≡ cReading (cRead (call c .args .reader) (call c .args .bytes .now))
-answer c message e = ap (tookIn (c .scan-c .result) (frame c)) e ∙ c .scan-c .ensures .says
 
 slice-aggregate-scan-c : tie.Need-slice-aggregate-scan-c
 slice-aggregate-scan-c c = search needs
@@ -36,9 +28,9 @@ returns : tie.Need-returns
 returns c =
     let scan = c .before .before .before .before in
     let a = call scan .args in
-    c .took .ensures ∙ answer scan _
-    (no-message-at (a .reader) (a .bytes .now) (scan .scan-c .result) (frame scan) (scan .scan-c .ensures)
-    (c .before .if1 .taken))
+    c .took .ensures
+    ∙ took-none (a .reader) (a .bytes .now) (scan .scan-c .result) (frame scan) (scan .scan-c .ensures)
+    (c .before .if1 .taken)
 
 cast-end : tie.Need-cast-end
 cast-end c = search needs
@@ -69,9 +61,9 @@ returns-2 : tie.Need-returns-2
 returns-2 c =
     let scan = c .before .before .before .before .before .before .before .before in
     let a = call scan .args in
-    c .took2 .ensures ∙ answer scan _
-    (c .before .in-array .ensures ∙ ap padded
-    (message-at (a .reader) (a .bytes .now) (scan .scan-c .result) (frame scan) (scan .scan-c .ensures)))
+    c .took2 .ensures
+    ∙ took-message (a .reader) (a .bytes .now) (scan .scan-c .result) (frame scan) (scan .scan-c .ensures) _
+    (c .before .in-array .ensures)
 
 pub nx584-read-spec : {M : Type 1} → statement M
 nx584-read-spec =
