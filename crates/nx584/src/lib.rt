@@ -266,16 +266,13 @@ fn c_group(group: Group) -> CGroup
     }
 }
 
-// A good message in its array, zero beyond its length. It is one of the 41, so that no more of the
-// array is copied than the longest of them has: the rest is zero from the beginning.
+// A good message in its array, zero beyond its length: one of the 41.
 fn in_array(message: &[u8]) -> [u8; LONGEST]
     requires { ⌜ length (now message) ≤ longestKnown ⌝ }
     ensures { λ r. ⌜ r ≡ padded (now (message .entry)) ⌝ }
 {
-    let mut short = [0u8; standard::LONGEST_KNOWN];
-    bytes::copy(message, &mut short);
     let mut array = [0u8; LONGEST];
-    bytes::copy(&short, &mut array);
+    bytes::copy(message, &mut array);
     array
 }
 
