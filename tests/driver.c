@@ -3,7 +3,7 @@
  * under an emulator too.
  *
  * A call is one byte, the function below with the two flags, and then the operands in the order of the
- * header. Numbers are little-endian: a size_t has 8 bytes, a reader 26, and a buffer is its length in 4
+ * header. Numbers are little-endian: a size_t has 8 bytes, a reader 263, and a buffer is its length in 4
  * bytes and then its bytes; slots are a buffer of 16 bytes for each. An answer is the function's result,
  * field by field in the header's order.
  * After a buffer that is lent for writing, the answer has its bytes, and before them one byte: 1 if no

@@ -43,7 +43,7 @@ pub enum Call {
 }
 
 /// The version of nx584.h that is meant here.
-const VERSION: u32 = 2;
+const VERSION: u32 = 3;
 /// The bytes of nx584_zone_record, nx584_partition_record and nx584_system_record.
 const ZONE_RECORD: usize = 9;
 const PARTITION_RECORD: usize = 10;
@@ -237,7 +237,7 @@ fn put_reader(line: &mut Vec<u8>, reader: &Reader) {
 }
 
 impl Call {
-    fn is_kept(&self) -> bool {
+    pub fn is_kept(&self) -> bool {
         matches!(
             self,
             Call::Step { reader: None, .. }

@@ -1,5 +1,5 @@
-//! Document 01's bench cards, the expected values typed from its page. They are asked of the second
-//! program itself, and of the library where there is one.
+//! Document 01's bench cards, the expected values typed from its page, and some for document 02, No. 2. They
+//! are asked of the second program itself, and of the library where there is one.
 
 use crate::calls::{Answer, Call, Library};
 use crate::reader::{Reader, Reading, NONE};
@@ -17,6 +17,22 @@ const CARD_8: &[u8] = &[0x7E, 0x01, 0x7D, 0x7E, 0x01, 0x1D, 0x1E, 0x1F];
 const CARD_13: &str = "0 05 --\n0 1D --\n1 16 1\n2 0 -9999\n3 0 -9999\n4 0 -9999\n5 0 -9999\n\
     6 0 -9999\n7 0 -9999\n8 0 -9999\n9 0 -9999\n10 0 -9999\n11 0 -9999\n12 0 -9999\n13 0 -9999\n\
     14 0 -9999\n15 0 -9999\n16 0 -9999\n";
+
+/// The unknown number 22h and bytes that count up from 01h, 19 in all: the second sum is 7Eh.
+const LONG_19: &[u8] = &[
+    0x7E, 0x13, 0x22, 0x01, 0x02, 0x03, 0x04, 0x05, 0x06, 0x07, 0x08, 0x09, 0x0A, 0x0B, 0x0C, 0x0D, 0x0E,
+    0x0F, 0x10, 0x11, 0x12, 0xE0, 0x7D, 0x5E,
+];
+const LONG_19_ASCII: &[u8] = b"\n13220102030405060708090A0B0C0D0E0F101112E07E\r";
+/// The same with the number 03h, which asks for 18; and with another second sum.
+const LONG_03: &[u8] = &[
+    0x7E, 0x13, 0x03, 0x01, 0x02, 0x03, 0x04, 0x05, 0x06, 0x07, 0x08, 0x09, 0x0A, 0x0B, 0x0C, 0x0D, 0x0E,
+    0x0F, 0x10, 0x11, 0x12, 0xC1, 0x2F,
+];
+const LONG_03_DAMAGED: &[u8] = &[
+    0x7E, 0x13, 0x03, 0x01, 0x02, 0x03, 0x04, 0x05, 0x06, 0x07, 0x08, 0x09, 0x0A, 0x0B, 0x0C, 0x0D, 0x0E,
+    0x0F, 0x10, 0x11, 0x12, 0xC1, 0x30,
+];
 
 /// What a host hears: the verdict, its type byte, the message and the reply; then how many bytes it used.
 type Heard = (u8, u8, Vec<u8>, u8, u64);
@@ -149,6 +165,61 @@ fn card_12(library: &mut impl Library) -> bool {
         && heard(library, 0, &frame_241) == [(8, 0x25, vec![], 0x1F, 6)]
 }
 
+/// Bytes that count up.
+fn up(from: u8, to: u8) -> Vec<u8> {
+    (from..=to).collect()
+}
+
+fn digits(bytes: &[u8]) -> String {
+    bytes.iter().map(|byte| format!("{byte:02X}")).collect()
+}
+
+/// 126 and 255 bytes that count up behind 22h, in both framings: the length 126 is escaped.
+fn long_126() -> [Vec<u8>; 2] {
+    let binary = [&[0x7E, 0x7D, 0x5E, 0x22], &up(0x01, 0x7C)[..], &[0x7D, 0x5D, 0x82, 0xE7]].concat();
+    [binary, format!("\n7E22{}82E7\r", digits(&up(0x01, 0x7D))).into_bytes()]
+}
+
+fn long_255() -> [Vec<u8>; 2] {
+    let parts = [
+        &[0x7E, 0xFF, 0x22],
+        &up(0x01, 0x7C)[..],
+        &[0x7D, 0x5D, 0x7D, 0x5E],
+        &up(0x7F, 0xFE)[..],
+        &[0x22, 0x55],
+    ];
+    [parts.concat(), format!("\nFF22{}2255\r", digits(&up(0x01, 0xFE))).into_bytes()]
+}
+
+/// Frames of the unknown number 22h: 6 with reply 1Fh at the last byte, nothing before it, no byte of the table.
+fn is_rejected(library: &mut impl Library, frames: &[Vec<u8>; 2]) -> bool {
+    (0..2).all(|framing| {
+        let frame = &frames[usize::from(framing)];
+        let used = frame.len() as u64;
+        heard(library, framing, frame) == [(6, 0x22, vec![], 0x1F, used)]
+            && kept_table(library) == vec![0; TABLE_BYTES]
+            && read_fresh(library, framing, &frame[..frame.len() - 1]) == (NONE, used - 1)
+    })
+}
+
+/// The writer's refusals: 4 for an empty message or one above 255, else what the number says.
+fn long_writes(library: &mut impl Library) -> bool {
+    let refusals = [
+        (0x22, 0, 4),
+        (0x22, 19, 6),
+        (0x22, 255, 6),
+        (0x22, 256, 4),
+        (0x03, 19, 7),
+        (0x03, 255, 7),
+        (0x03, 256, 4),
+    ];
+    refusals.iter().all(|&(number, length, refusal)| {
+        let mut message = vec![0; length];
+        message.iter_mut().take(1).for_each(|byte| *byte = number);
+        (0..2).all(|framing| written(library, &message, framing, 600, 0) == (refusal, 0, vec![0xEE; 600]))
+    })
+}
+
 /// Each card's name, and whether the library answers as the card says.
 pub fn cards(library: &mut impl Library) -> Vec<(&'static str, bool)> {
     let card_1 = good(&[0x1D], 0, 5);
@@ -170,10 +241,19 @@ pub fn cards(library: &mut impl Library) -> Vec<(&'static str, bool)> {
         ("card 8: 1, then 0", heard(library, 0, CARD_8) == [(1, 0, vec![], 0x1E, 4), good(&[0x1D], 0, 4)]),
         ("card 9: 7E 00 is 4", read_fresh(library, 0, &[0x7E, 0x00]) == (4, 2)),
         ("card 9: 7E 12 is nothing yet", read_fresh(library, 0, &[0x7E, 0x12]) == (NONE, 2)),
-        ("card 9: 7E 13 is 4", read_fresh(library, 0, &[0x7E, 0x13]) == (4, 2)),
+        ("card 9: 7E 13 is nothing yet", read_fresh(library, 0, &[0x7E, 0x13]) == (NONE, 2)),
         ("card 10: card 1 cut after each byte in turn", card_10(library)),
         ("card 11: card 1 at place 3 of 8 and of 7 bytes", card_11(library)),
         ("card 12: offset 240 in 25h passes, 241 gives 8", card_12(library)),
+        (
+            "long: 19 bytes of 22h, 6, reply 1F",
+            is_rejected(library, &[LONG_19.to_vec(), LONG_19_ASCII.to_vec()]),
+        ),
+        ("long: 126 bytes of 22h, 6, reply 1F", is_rejected(library, &long_126())),
+        ("long: 255 bytes of 22h, 6, reply 1F", is_rejected(library, &long_255())),
+        ("long: 19 bytes of 03h, 7, reply 1E", heard(library, 0, LONG_03) == [(7, 0x03, vec![], 0x1E, 23)]),
+        ("long: another sum, 5, reply 1E", heard(library, 0, LONG_03_DAMAGED) == [(5, 0, vec![], 0x1E, 23)]),
+        ("long: the writer refuses 4, 6 and 7", long_writes(library)),
     ]
 }
 

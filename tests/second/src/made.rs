@@ -1,6 +1,6 @@
 //! Made inputs: messages, frames, damage, streams, readers and tables, from a seed.
 
-use crate::messages::{checked_bytes, is_for_a_unit, length_of, Allowed, LENGTHS, LONGEST};
+use crate::messages::{checked_bytes, is_for_a_unit, length_of, Allowed, LENGTHS, LONGEST, LONGEST_KNOWN};
 use crate::parts::{coded, frame, start, Ascii, Binary, Framing};
 use crate::reader::{Reader, DIGIT_PENDING};
 use crate::table::TABLE_BYTES;
@@ -57,6 +57,11 @@ const TELLING: [u8; 24] = [
     0x61, 0x66, 0x7C, 0x7D, 0x7E, 0xFE, 0xFF,
 ];
 
+/// Lengths at which a quick build goes wrong: around the longest of the 41, around those whose length byte
+/// is escaped, and around the longest that a length byte says.
+const TELLING_LENGTHS: [usize; 17] =
+    [0, 1, 2, 17, 18, 19, 20, 21, 124, 125, 126, 127, 253, 254, 255, 256, 257];
+
 /// Any byte, often a telling one.
 pub fn byte(chance: &mut Chance) -> u8 {
     if chance.one_in(3) {
@@ -103,17 +108,45 @@ pub fn table_message(chance: &mut Chance) -> Vec<u8> {
     good_message(chance, number)
 }
 
+/// A length for any bytes as a message: mostly about as long as the 41 are.
+fn any_length(chance: &mut Chance) -> usize {
+    match chance.below(8) {
+        0 | 1 => chance.of(&TELLING_LENGTHS),
+        2 => chance.below(LONGEST + 3),
+        _ => chance.below(LONGEST_KNOWN + 3),
+    }
+}
+
+/// A message that is longer than each of the 41, of a number that is among theirs or not.
+fn long_message(chance: &mut Chance) -> Vec<u8> {
+    let length = match chance.below(2) {
+        0 => chance.of(&TELLING_LENGTHS).clamp(LONGEST_KNOWN + 1, LONGEST),
+        _ => LONGEST_KNOWN + 1 + chance.below(LONGEST - LONGEST_KNOWN),
+    };
+    let mut message = bytes(chance, length);
+    if chance.one_in(3) {
+        message[0] = chance.of(&LENGTHS).0 | chance.of(&[0, 0x80]);
+    }
+    message
+}
+
+/// A message of which the frame's sums are right: good, or at times a long one.
+fn good_or_long(chance: &mut Chance) -> Vec<u8> {
+    if chance.one_in(16) {
+        long_message(chance)
+    } else {
+        some_good_message(chance)
+    }
+}
+
 /// A message that is more likely bad than good: any number and length, or one byte of a good one changed.
 pub fn doubtful_message(chance: &mut Chance) -> Vec<u8> {
     let mut message = some_good_message(chance);
     match chance.below(5) {
         0 => message[0] = byte(chance),
-        1 => {
-            let length = chance.below(LONGEST + 3);
-            message.resize(length, 0x55);
-        }
+        1 => message.resize(any_length(chance), 0x55),
         2 => {
-            let length = chance.below(LONGEST + 3);
+            let length = any_length(chance);
             message = bytes(chance, length);
         }
         _ => {
@@ -169,31 +202,34 @@ fn damage(chance: &mut Chance, line: &mut Vec<u8>) {
     }
 }
 
-/// A frame with right sums whose length byte is not the message's, or is none.
+/// A length byte, and bytes that may be more or fewer than it says.
 fn with_another_length(chance: &mut Chance, framing: Framing) -> Vec<u8> {
-    let length = chance.of(&[0, 1, 17, 18, 19, 20, 126, 125, 255]);
-    let some = chance.below(24);
+    let length = chance.of(&[0, 1, 17, 18, 19, 20, 124, 125, 126, 127, 254, 255]);
+    let some = match chance.below(4) {
+        0 => usize::from(length) + chance.below(6),
+        _ => chance.below(24),
+    };
     let mut line = vec![start(framing)];
     line.extend(coded(framing, &[length]));
     line.extend(coded(framing, &bytes(chance, some)));
     line
 }
 
-/// A piece of a stream: good, bad, damaged, or no frame at all.
+/// A piece of a stream: good, bad, long, damaged, or no frame at all.
 pub fn piece(chance: &mut Chance, framing: Framing) -> Vec<u8> {
-    let good = some_good_message(chance);
+    let message = good_or_long(chance);
     match chance.below(12) {
-        0..=2 => frame(framing, &good),
-        3 => loosely_escaped(chance, framing, &good),
+        0..=2 => frame(framing, &message),
+        3 => loosely_escaped(chance, framing, &message),
         4 | 5 => frame(framing, &doubtful_message(chance)),
         6 | 7 => {
-            let mut line = frame(framing, &good);
+            let mut line = frame(framing, &message);
             damage(chance, &mut line);
             line
         }
         8 => {
             // the last byte changed: the stop in ASCII, a sum in binary
-            let mut line = frame(framing, &good);
+            let mut line = frame(framing, &message);
             *line.last_mut().expect("a frame has bytes") = byte(chance);
             line
         }
@@ -217,22 +253,28 @@ pub fn long_noise(chance: &mut Chance, framing: Framing) -> Vec<u8> {
     noise.iter().map(|&b| if b == start(framing) { 0 } else { b }).collect()
 }
 
+/// How many bytes a reader says that it holds: often about as many as its length allows, at times so many
+/// that only their low byte is.
+fn held(chance: &mut Chance, length: u16) -> u16 {
+    let around = length + chance.below(6) as u16;
+    match chance.below(6) {
+        0 => 0,
+        1 => chance.of(&[1, 2, 20, 21, 22, 255, 256, 257, 258, 259, 256 + around, 512 + around, 65_535]),
+        2 | 3 => around,
+        4 => chance.below(LONGEST_KNOWN + 4) as u16,
+        _ => chance.below(LONGEST + 4) as u16,
+    }
+}
+
 /// Any reader at all, most of them near the edge of soundness.
 pub fn reader(chance: &mut Chance) -> Reader {
     let framing = chance.framing();
-    let most = LONGEST as u8;
     let length = match chance.below(4) {
-        0 => chance.of(&[0, 1, most, most + 1, 255]),
+        0 => chance.of(&[0, 1, 18, 19, 125, 126, 127, 253, 254, 255]),
         1 => chance.byte(),
-        _ => 1 + chance.below(LONGEST) as u8,
+        _ => 1 + chance.below(LONGEST_KNOWN) as u8,
     };
-    let around = u16::from(length) + chance.below(6) as u16;
-    let held = match chance.below(6) {
-        0 => 0,
-        1 => chance.of(&[1, 2, 20, 21, 22, 255, 256, 257, 65_535]),
-        2 | 3 => around,
-        _ => chance.below(LONGEST + 4) as u16,
-    };
+    let held = held(chance, u16::from(length));
     let mode = match chance.below(12) {
         0 => chance.byte(),
         1 => DIGIT_PENDING + 1,
@@ -249,10 +291,11 @@ pub fn reader(chance: &mut Chance) -> Reader {
     Reader { framing: chance.framing_number(framing), mode, digit, held, bytes: held_bytes }
 }
 
-/// A sound reader in the middle of a good frame, and the rest of that frame.
+/// A sound reader in the middle of a good or a long frame, and the rest of that frame.
 pub fn reader_and_rest(chance: &mut Chance) -> (Reader, Vec<u8>) {
     let framing = chance.framing();
-    let line = frame(framing, &some_good_message(chance));
+    let message = if chance.one_in(4) { long_message(chance) } else { some_good_message(chance) };
+    let line = frame(framing, &message);
     let at = 1 + chance.below(line.len() - 1);
     let fresh = Reader::fresh(u8::from(framing == Ascii));
     (crate::reader::read(&fresh, &line[..at]).reader, line[at..].to_vec())

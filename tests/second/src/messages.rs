@@ -1,7 +1,9 @@
 //! Sums, the 41 messages and their checked values (document 01, "Sum" and "The 41 messages").
 
-/// The longest message that is read and written, its type byte included.
-pub const LONGEST: usize = 18;
+/// The longest message that is read, its type byte included (document 02, No. 2).
+pub const LONGEST: usize = 255;
+/// The longest of the 41, and so the longest that is written.
+pub const LONGEST_KNOWN: usize = 18;
 
 /// Each number that is recognised, with the length of its message.
 pub const LENGTHS: [(u8, usize); 41] = [

@@ -40,17 +40,27 @@ fn counted(message: &[u8]) -> Vec<u8> {
     bytes
 }
 
-/// The frame of any bytes as a message, be it good or not.
-pub fn frame(framing: Framing, message: &[u8]) -> Vec<u8> {
-    let mut body = counted(message);
-    let (sum1, sum2) = sums(&body);
-    body.extend([sum1, sum2]);
+/// The length byte of a message, its bytes and its sums.
+pub fn summed(message: &[u8]) -> Vec<u8> {
+    let mut bytes = counted(message);
+    let (sum1, sum2) = sums(&bytes);
+    bytes.extend([sum1, sum2]);
+    bytes
+}
+
+/// Any bytes from start to stop.
+pub fn framed(framing: Framing, bytes: &[u8]) -> Vec<u8> {
     let mut line = vec![start(framing)];
-    line.extend(coded(framing, &body));
+    line.extend(coded(framing, bytes));
     if framing == Ascii {
         line.push(STOP);
     }
     line
+}
+
+/// The frame of any bytes as a message, be it good or not. Of a length above 255 the line has the low byte.
+pub fn frame(framing: Framing, message: &[u8]) -> Vec<u8> {
+    framed(framing, &summed(message))
 }
 
 /// A verdict, and the index of the byte that decides it.
@@ -129,6 +139,15 @@ pub fn digit(character: u8) -> Option<u8> {
 /// The bytes that pairs of digits make; a last digit without its fellow is left out.
 pub fn paired(characters: &[u8]) -> Vec<u8> {
     characters.chunks_exact(2).filter_map(|pair| Some(digit(pair[0])? << 4 | digit(pair[1])?)).collect()
+}
+
+/// The length byte of a part, where it has come.
+pub fn length_in(framing: Framing, part: &[u8]) -> Option<u8> {
+    let head = &part[..part.len().min(3)];
+    match framing {
+        Binary => unstuffed(head).0.first().map(|pair| pair.0),
+        Ascii => paired(&head[1..]).first().copied(),
+    }
 }
 
 fn judge_ascii(part: &[u8]) -> Option<Judged> {

@@ -3,7 +3,7 @@
 //! bytes and its own say.
 
 use crate::messages::LONGEST;
-use crate::parts::{coded, digit, paired, start, unstuffed, verdicts, Ascii, Binary, Framing};
+use crate::parts::{coded, digit, length_in, paired, start, unstuffed, verdicts, Ascii, Binary, Framing};
 
 /// Where there is no verdict yet.
 pub const NONE: u8 = 255;
@@ -54,9 +54,9 @@ impl Reader {
         Reader { framing: u8::from(framing == Ascii), mode, digit, held, bytes }
     }
 
-    /// "No recovered byte, or the first is a length L of 1 to 18 and it holds at most L + 2 recovered
-    /// bytes in binary, L + 3 in ASCII (the stop is then due and no digit pending). In both cases a
-    /// pending digit must be at most 15."
+    /// "No recovered byte, or the first is a length L" of 1 to 255 (document 02, No. 2) "and it holds at
+    /// most L + 2 recovered bytes in binary, L + 3 in ASCII (the stop is then due and no digit pending). In
+    /// both cases a pending digit must be at most 15."
     pub fn is_sound(&self) -> bool {
         let pending = self.mode == DIGIT_PENDING;
         if self.mode > DIGIT_PENDING || (pending && self.digit > 15) {
@@ -87,6 +87,17 @@ impl Reader {
             _ => {}
         }
         line
+    }
+
+    /// The length byte of the frame in which the last of these bytes gave a verdict; none where it had none
+    /// before that byte.
+    pub fn length_heard(&self, bytes: &[u8]) -> Option<u8> {
+        let framing = framing_of(self.framing);
+        let mut line = self.line();
+        line.extend_from_slice(bytes);
+        line.pop()?;
+        let begin = line.iter().rposition(|&b| b == start(framing))?;
+        length_in(framing, &line[begin..])
     }
 
     /// A reader that skips keeps what it holds until a start comes.

@@ -5,7 +5,7 @@ use std::collections::VecDeque;
 use crate::calls::{Answer, Call, Library, Second};
 use crate::commands::{take, tick, told, waiting, Sending, Slot, GIVEN_UP, NOT_ENDED, SLOTS};
 use crate::made::{self, Chance};
-use crate::messages::{sums, sums_in_eight_bits, verdict_of, LENGTHS};
+use crate::messages::{sums, sums_in_eight_bits, verdict_of, LENGTHS, LONGEST, LONGEST_KNOWN};
 use crate::odd;
 use crate::parts::{frame, verdicts, Ascii, Binary, Framing, Judged};
 use crate::reader::NONE;
@@ -25,7 +25,7 @@ fn worked_example() -> bool {
 
 fn sums_are_the_pseudo_code(chance: &mut Chance) -> bool {
     (0..20_000).all(|k| {
-        let bytes = made::bytes(chance, k % 40);
+        let bytes = made::bytes(chance, k % (LONGEST + 2));
         sums(&bytes) == sums_in_eight_bits(&bytes)
     })
 }
@@ -35,6 +35,7 @@ fn lengths_add_up() -> bool {
     LENGTHS.windows(2).all(|pair| pair[0].0 < pair[1].0)
         && LENGTHS.iter().map(|row| row.1).sum::<usize>() == 226
         && LENGTHS.iter().all(|row| row.0 < 64)
+        && LENGTHS.iter().map(|row| row.1).max() == Some(LONGEST_KNOWN)
 }
 
 /// A written frame has at most 41 or 44 bytes, and gives its message back, after noise too.
@@ -52,6 +53,21 @@ fn frames_are_read_back(chance: &mut Chance) -> bool {
             && line.len() <= [41, 44][k % 2]
             && last.map_or(false, |j| (j.verdict, j.message) == (0, message))
     })
+}
+
+/// The verdict of each length byte with a 22h and zeros behind it, as many bytes as it says and then its
+/// sums: 4 at the length for 0, 6 at the last byte for every other, silence where that is missing.
+fn every_length_is_read(framing: Framing) -> bool {
+    let judged = |line: &[u8]| verdicts(framing, line).map(|j| (j.verdict, j.at)).collect::<Vec<_>>();
+    let last = |line: &[u8]| line.len() - 1;
+    let start_and_0 = &frame(framing, &[])[..if framing == Ascii { 3 } else { 2 }];
+    judged(start_and_0) == [(4, last(start_and_0))]
+        && (1..=LONGEST).all(|length| {
+            let mut message = vec![0; length];
+            message[0] = 0x22;
+            let line = frame(framing, &message);
+            judged(&line) == [(6, last(&line))] && judged(&line[..last(&line)]).is_empty()
+        })
 }
 
 /// The verdicts of a stream that is read in cuts, unused bytes handed in again.
@@ -207,6 +223,7 @@ pub fn run(chance: &mut Chance, tally: &mut Tally) {
     tally.note("sums are those of document 003's pseudo-code", sums_are_the_pseudo_code(chance));
     tally.note("41 lengths", lengths_add_up());
     tally.note("written frames are read back", frames_are_read_back(chance));
+    tally.note("every length is read", [Binary, Ascii].into_iter().all(every_length_is_read));
     tally.note("cuts do not matter", cuts_do_not_matter(chance));
     tally.note("records are what was said", records_are_what_was_said());
     tally.note("a silent gateway: sent four times, given up", silence_gives_up());
