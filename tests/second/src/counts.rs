@@ -2,12 +2,12 @@
 
 use crate::calls::{Answer, Call, Lent};
 use crate::commands::{from_memory, waiting, Sending, GIVEN_UP};
-use crate::messages::LENGTHS;
+use crate::messages::{LENGTHS, LONGEST, LONGEST_KNOWN};
 use crate::odd::{Wrong, WRONGS};
-use crate::reader::NONE;
+use crate::reader::{Reader, NONE};
 
 /// What is counted apart, and the numbers that a run must have met in it. Refusal 10 has no cause.
-const ROWS: [(&str, &[u8]); 22] = [
+const ROWS: [(&str, &[u8]); 29] = [
     ("read and step, binary: verdict", &[0, 1, 4, 5, 6, 7, 8, 12, NONE]),
     ("read and step, ASCII: verdict", &[0, 1, 2, 3, 4, 5, 6, 7, 8, 12, NONE]),
     ("hear: verdict", &[0, 1, 2, 3, 4, 5, 6, 7, 8, 11, 12, NONE]),
@@ -30,12 +30,28 @@ const ROWS: [(&str, &[u8]); 22] = [
     ("told: ended by", &[0, GIVEN_UP, 0x12, 0x1C, 0x1D, 0x1F]),
     ("told: what goes out", &GOES_OUT),
     ("taken: how many wait then", &[1, 2, 3, 4, 5, 6, 7, 8]),
+    ("frames above 18, binary: verdict", LONG_VERDICTS[0]),
+    ("frames above 18, ASCII: verdict", LONG_VERDICTS[1]),
+    ("frames above 18, hear: reply", &[0x1E, 0x1F]),
+    ("messages above 18, write: number", &[4, 6, 7]),
+    ("messages above 18, apply: number", &[4, 6, 7, 11]),
+    ("messages above 18, take: number", &[4, 6, 7, 22]),
+    ("messages above 18, told: number", &[4, 6, 7, 22]),
 ];
+/// What becomes of a frame that is longer than each of the 41, and of some frame of every length, in binary
+/// and in ASCII.
+const LONG_VERDICTS: [&[u8]; 2] = [&[1, 5, 6, 7], &[1, 2, 3, 5, 6, 7]];
 /// Where the rows of take, tick and told begin: number, ended, what goes out.
 const TAKE: usize = 12;
 const TICK: usize = 15;
 const TOLD: usize = 18;
 const WAITING: usize = 21;
+const LONG_FRAMES: usize = 22;
+const LONG_REPLIES: usize = 24;
+const LONG_WRITE: usize = 25;
+const LONG_APPLY: usize = 26;
+const LONG_TAKE: usize = 27;
+const LONG_TOLD: usize = 28;
 /// Nothing, and the 14 with their flag set.
 const GOES_OUT: [u8; 15] =
     [0, 0xA9, 0xAB, 0xAC, 0xB1, 0xB4, 0xB5, 0xB6, 0xB7, 0xBA, 0xBB, 0xBC, 0xBD, 0xBE, 0xBF];
@@ -48,11 +64,28 @@ pub struct Counts {
     rows: [[u64; 256]; ROWS.len()],
     good: [[u64; 64]; 2],
     wrong: [u64; WRONGS.len()],
+    /// By framing, verdict and length.
+    lengths: [[[u64; 256]; 9]; 2],
+    /// The driver's kept reader, which a call may go on with.
+    kept: Reader,
+}
+
+/// The frame in which a verdict fell: a call that gave none, or before a length had come, has none.
+struct Fallen {
+    ascii: usize,
+    verdict: u8,
+    length: usize,
 }
 
 impl Counts {
     pub fn new() -> Counts {
-        Counts { rows: [[0; 256]; ROWS.len()], good: [[0; 64]; 2], wrong: [0; WRONGS.len()] }
+        Counts {
+            rows: [[0; 256]; ROWS.len()],
+            good: [[0; 64]; 2],
+            wrong: [0; WRONGS.len()],
+            lengths: [[[0; 256]; 9]; 2],
+            kept: Reader::fresh(0),
+        }
     }
 
     pub fn add(&mut self, other: &Counts) {
@@ -60,6 +93,64 @@ impl Counts {
         let theirs = other.rows.iter().flatten().chain(other.good.iter().flatten());
         mine.zip(theirs).for_each(|(mine, theirs)| *mine += theirs);
         self.wrong.iter_mut().zip(&other.wrong).for_each(|(mine, theirs)| *mine += theirs);
+        let mine = self.lengths.iter_mut().flatten().flatten();
+        let theirs = other.lengths.iter().flatten().flatten();
+        mine.zip(theirs).for_each(|(mine, theirs)| *mine += theirs);
+    }
+
+    fn fallen(&self, call: &Call, answer: &Answer) -> Option<Fallen> {
+        let (own, bytes) = match call {
+            Call::Step { reader, byte } => (reader.as_ref(), std::slice::from_ref(byte)),
+            Call::Read { reader, bytes } => (reader.as_ref(), &bytes[..]),
+            Call::Hear { with, bytes } => (with.as_ref().map(|w| &w.0), &bytes[..]),
+            _ => return None,
+        };
+        match answer {
+            Answer::Reading(r) | Answer::Hearing { reading: r, .. } if r.verdict <= 8 => {
+                let length = own.unwrap_or(&self.kept).length_heard(&bytes[..r.used as usize])?;
+                let ascii = usize::from(r.reader.framing != 0);
+                Some(Fallen { ascii, verdict: r.verdict, length: usize::from(length) })
+            }
+            _ => None,
+        }
+    }
+
+    /// Counts by the length of a frame or of a message.
+    fn count_length(&mut self, call: &Call, answer: &Answer) {
+        if let Some(Fallen { ascii, verdict, length }) = self.fallen(call, answer) {
+            self.lengths[ascii][usize::from(verdict)][length] += 1;
+            if length > LONGEST_KNOWN {
+                self.rows[LONG_FRAMES + ascii][usize::from(verdict)] += 1;
+                if let Answer::Hearing { reply, .. } = answer {
+                    self.rows[LONG_REPLIES][usize::from(*reply)] += 1;
+                }
+            }
+        }
+        let (row, message, number) = match (call, answer) {
+            (Call::Write { message, .. }, Answer::Written(w)) => (LONG_WRITE, message, w.number),
+            (Call::Apply { message, .. }, Answer::Applied { number, .. }) => (LONG_APPLY, message, *number),
+            (Call::Take { message, .. }, Answer::Sending { sending, .. }) => {
+                (LONG_TAKE, message, sending.number)
+            }
+            (Call::Told { message, .. }, Answer::Sending { sending, .. }) => {
+                (LONG_TOLD, message, sending.number)
+            }
+            _ => return,
+        };
+        if message.len() > LONGEST_KNOWN {
+            self.rows[row][usize::from(number)] += 1;
+        }
+    }
+
+    /// Keeps the reader that the driver keeps.
+    fn keep(&mut self, call: &Call, answer: &Answer) {
+        match answer {
+            Answer::Reader(reader) => self.kept = reader.clone(),
+            Answer::Reading(r) | Answer::Hearing { reading: r, .. } if call.is_kept() => {
+                self.kept = r.reader.clone();
+            }
+            _ => {}
+        }
     }
 
     fn count_sending(&mut self, row: usize, sending: &Sending, lent: &Option<Lent>) {
@@ -75,6 +166,12 @@ impl Counts {
     }
 
     pub fn count(&mut self, call: &Call, answer: &Answer) {
+        self.count_length(call, answer);
+        self.keep(call, answer);
+        self.count_numbers(call, answer);
+    }
+
+    fn count_numbers(&mut self, call: &Call, answer: &Answer) {
         let mut add = |row: usize, number: u8| self.rows[row][usize::from(number)] += 1;
         match (call, answer) {
             (_, Answer::Reading(r)) => {
@@ -110,6 +207,22 @@ impl Counts {
                 self.count_sending(TOLD, sending, slots);
             }
             _ => {}
+        }
+    }
+
+    /// Prints how often each verdict fell in frames of the length that had it the least.
+    fn print_lengths(&self, missing: &mut Vec<String>) {
+        for ((lengths, framing), verdicts) in self.lengths.iter().zip(["binary", "ASCII"]).zip(LONG_VERDICTS)
+        {
+            let fewest = |verdict: u8| lengths[usize::from(verdict)][1..=LONGEST].iter().min();
+            let met: Vec<_> = verdicts.iter().map(|&v| (v, fewest(v).copied().unwrap_or(0))).collect();
+            let shown: Vec<String> = met.iter().map(|(v, count)| format!("{v} x {count}")).collect();
+            println!("  frames of each length 1 to 255, {framing}: at least {}", shown.join(", "));
+            missing.extend(
+                met.iter()
+                    .filter(|(_, count)| *count == 0)
+                    .map(|(verdict, _)| format!("some length has no {framing} frame with verdict {verdict}")),
+            );
         }
     }
 
@@ -155,6 +268,7 @@ impl Counts {
                 missing.push(format!("some number has fewer than {GOOD_FRAMES} good {framing} frames"));
             }
         }
+        self.print_lengths(&mut missing);
         missing
     }
 }

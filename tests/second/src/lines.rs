@@ -5,7 +5,7 @@ use crate::commands::{to_memory, Slot, COMMANDS, MOST_SENT, SLOTS, SLOT_BYTES, T
 use crate::counts::ODD_SLOTS;
 use crate::driver::Calls;
 use crate::made::{self, Chance};
-use crate::messages::{length_of, LONGEST};
+use crate::messages::{length_of, LONGEST_KNOWN};
 use crate::odd::{self, Wrong, WRONGS};
 
 fn lent(slots: &[Slot], wrong: Wrong) -> Option<Lent> {
@@ -40,15 +40,20 @@ fn offered(chance: &mut Chance) -> Vec<u8> {
     }
 }
 
+/// A message that is taken, and told, with some commands waiting.
+pub fn take_and_told(chance: &mut Chance, calls: &mut Calls, turn: usize, message: &[u8]) {
+    let slots = sound(chance, turn);
+    calls.call(Call::Take { slots, message: message.to_vec() });
+    let slots = sound(chance, turn + 1);
+    calls.call(Call::Told { slots, message: message.to_vec() });
+}
+
 pub fn all_types(chance: &mut Chance, calls: &mut Calls, _: u64) {
     for type_byte in 0..=255 {
-        for length in 0..=LONGEST + 2 {
+        for length in 0..=LONGEST_KNOWN + 2 {
             let mut message = vec![0; length];
             message.iter_mut().take(1).for_each(|b| *b = type_byte);
-            let slots = sound(chance, length);
-            calls.call(Call::Take { slots, message: message.clone() });
-            let slots = sound(chance, length + 1);
-            calls.call(Call::Told { slots, message });
+            take_and_told(chance, calls, length, &message);
         }
     }
 }

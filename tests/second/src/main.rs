@@ -7,6 +7,7 @@ mod commands;
 mod counts;
 mod driver;
 mod lines;
+mod long;
 mod made;
 mod messages;
 mod nxread;

@@ -4,8 +4,9 @@ use crate::calls::{Answer, Call};
 use crate::counts::GOOD_FRAMES;
 use crate::driver::Calls;
 use crate::lines;
+use crate::long;
 use crate::made::{self, Chance};
-use crate::messages::{LENGTHS, LONGEST};
+use crate::messages::{LENGTHS, LONGEST, LONGEST_KNOWN};
 use crate::parts::{frame, Ascii, Binary, Framing};
 use crate::reader::{framing_of, Reader, NONE};
 use crate::table::TABLE_BYTES;
@@ -18,15 +19,23 @@ pub struct Trial {
     pub make: fn(&mut Chance, &mut Calls, u64),
 }
 
-pub const TRIALS: [Trial; 18] = [
+pub const TRIALS: [Trial; 26] = [
     Trial { name: "reply: all 65,536 pairs", share: 0, make: all_replies },
-    Trial { name: "every type byte at every length", share: 0, make: all_types_and_lengths },
+    Trial { name: "every type byte at every length to 20", share: 0, make: all_types_and_lengths },
     Trial { name: "every value of every byte of every message", share: 0, make: all_values },
     Trial { name: "X-10: every function with units", share: 0, make: all_x10 },
     Trial { name: "good frames of every number", share: 0, make: good_frames },
     Trial { name: "readers at every edge of held", share: 0, make: edge_readers },
+    Trial { name: "long: a frame of each kind at every length", share: 0, make: long::every_length },
+    Trial { name: "long: byte by byte", share: 0, make: long::byte_by_byte },
+    Trial { name: "long: unknown messages cut in two at every place", share: 0, make: long::cut_in_two },
+    Trial { name: "long: frames of each kind cut in two", share: 0, make: long::kinds_cut_in_two },
+    Trial { name: "long: broken off at every place", share: 0, make: long::broken_off },
+    Trial { name: "long: every escape at the length's place", share: 0, make: long::escaped_lengths },
+    Trial { name: "long: some type bytes at every length to 257", share: 0, make: long::message_lengths },
+    Trial { name: "long: lengths that wrap", share: 0, make: long::lengths_that_wrap },
     Trial {
-        name: "commands: every type byte at every length, taken and told",
+        name: "commands: every type byte at every length to 20, taken and told",
         share: 0,
         make: lines::all_types,
     },
@@ -43,9 +52,9 @@ pub const TRIALS: [Trial; 18] = [
     Trial { name: "commands: runs from any sound slots", share: 3, make: lines::runs_from_any },
 ];
 
-const FRAMINGS: [Framing; 2] = [Binary, Ascii];
+pub const FRAMINGS: [Framing; 2] = [Binary, Ascii];
 
-fn number(framing: Framing) -> u8 {
+pub fn number(framing: Framing) -> u8 {
     u8::from(framing == Ascii)
 }
 
@@ -57,7 +66,7 @@ fn all_replies(_: &mut Chance, calls: &mut Calls, _: u64) {
 }
 
 /// One message through the writer, the reader and the table.
-fn all_ways(calls: &mut Calls, framing: Framing, message: &[u8]) {
+pub fn all_ways(calls: &mut Calls, framing: Framing, message: &[u8]) {
     let line = frame(framing, message);
     let out = vec![0x5A; line.len()];
     calls.call(Call::Write { message: message.to_vec(), framing: number(framing), out, place: 0 });
@@ -65,18 +74,18 @@ fn all_ways(calls: &mut Calls, framing: Framing, message: &[u8]) {
     calls.call(Call::Apply { table: None, message: message.to_vec() });
 }
 
-fn fresh_table(calls: &mut Calls) {
+pub fn fresh_table(calls: &mut Calls) {
     calls.call(Call::Keep { table: vec![0; TABLE_BYTES] });
 }
 
-fn show_table(calls: &mut Calls) {
+pub fn show_table(calls: &mut Calls) {
     calls.call(Call::Show { length: TABLE_BYTES });
 }
 
 fn all_types_and_lengths(_: &mut Chance, calls: &mut Calls, _: u64) {
     fresh_table(calls);
     for type_byte in 0..=255 {
-        for length in 0..=LONGEST + 2 {
+        for length in 0..=LONGEST_KNOWN + 2 {
             let mut message = vec![0; length];
             message.iter_mut().take(1).for_each(|b| *b = type_byte);
             FRAMINGS.iter().for_each(|&framing| all_ways(calls, framing, &message));
@@ -134,21 +143,41 @@ fn good_frames(chance: &mut Chance, calls: &mut Calls, _: u64) {
     }
 }
 
-/// Every length, every count held around its bound, every mode; then a byte of each telling kind.
+/// Counts of bytes held around the bound of a length, around what there is room for, and such of which only
+/// the low byte is within the bound.
+fn edge_counts(length: u16) -> Vec<u16> {
+    let wraps = [256, 512, 65_280].map(|more| more + length);
+    let room = LONGEST as u16 + 3;
+    let mut counts = vec![0, 1, 2, 22, 65_535];
+    counts.extend(length.saturating_sub(1)..=length + 4);
+    counts.extend(room - 3..=room + 1);
+    counts.extend(wraps);
+    if length <= 20 {
+        counts.extend(0..length);
+    }
+    counts.sort_unstable();
+    counts.dedup();
+    counts
+}
+
+/// A reader of any kind in an empty read, and then a byte of each telling kind.
+fn step_telling(calls: &mut Calls, reader: &Reader) {
+    calls.call(Call::Read { reader: Some(reader.clone()), bytes: vec![] });
+    for byte in [0x0A, 0x0D, 0x30, 0x46, 0x47, 0x5E, 0x7D, 0x7E] {
+        calls.call(Call::Step { reader: Some(reader.clone()), byte });
+    }
+}
+
+/// Every telling length, every count held around its bound, every mode.
 fn edge_readers(_: &mut Chance, calls: &mut Calls, _: u64) {
+    let modes = [(0, 0), (0, 99), (1, 0), (2, 0), (3, 0), (3, 15), (3, 16), (4, 0), (255, 0)];
     for framing in [0, 1, 2] {
-        for length in [0, 1, 2, 10, 17, 18, 19, 20, 255] {
-            for held in (0..=u16::from(length).min(20) + 4).chain([22, 256, 65_535]) {
-                for (mode, digit) in
-                    [(0, 0), (0, 99), (1, 0), (2, 0), (3, 0), (3, 15), (3, 16), (4, 0), (255, 0)]
-                {
+        for length in [0, 1, 2, 10, 17, 18, 19, 20, 124, 125, 126, 127, 253, 254, 255] {
+            for held in edge_counts(u16::from(length)) {
+                for (mode, digit) in modes {
                     let mut bytes = [0x30; LONGEST + 3];
                     bytes[0] = length;
-                    let reader = Reader { framing, mode, digit, held, bytes };
-                    calls.call(Call::Read { reader: Some(reader.clone()), bytes: vec![] });
-                    for byte in [0x0A, 0x0D, 0x30, 0x46, 0x47, 0x5E, 0x7D, 0x7E] {
-                        calls.call(Call::Step { reader: Some(reader.clone()), byte });
-                    }
+                    step_telling(calls, &Reader { framing, mode, digit, held, bytes });
                 }
             }
         }
@@ -233,7 +262,7 @@ fn any_readers(chance: &mut Chance, calls: &mut Calls, budget: u64) {
         let (reader, mut bytes) = match chance.below(4) {
             0 => made::reader_and_rest(chance),
             _ => {
-                let length = chance.below(48);
+                let length = if chance.one_in(16) { chance.below(600) } else { chance.below(48) };
                 (made::reader(chance), made::bytes(chance, length))
             }
         };
