@@ -9,8 +9,9 @@
 
 enum { PAINTED = 1 << 14, PAINT = 0xA5, TURNS = 500 };
 
-static uint8_t table[NX584_TABLE_BYTES], bytes[64], message[NX584_LONGEST], out[NX584_FRAME_MOST];
-static size_t count;
+static uint8_t table[NX584_TABLE_BYTES], bytes[2 * (NX584_LONGEST + 3) + 2], message[NX584_LONGEST + 1], out[NX584_FRAME_MOST];
+static size_t count, message_count;
+static uint8_t framing;
 static nx584_reader reader;
 static nx584_slot slots[NX584_SLOTS];
 static uint8_t stack[PAINTED];
@@ -29,20 +30,20 @@ static uint8_t chance(void)
 
 static void call_nothing(void) {}
 static void call_version(void) { sink = nx584_version(); }
-static void call_fresh(void) { reader = nx584_fresh(bytes[0]); }
+static void call_fresh(void) { reader = nx584_fresh(framing); }
 static void call_step(void) { sink = nx584_step(reader, bytes[0]).used; }
 static void call_read(void) { sink = nx584_read(reader, bytes, count).used; }
-static void call_write(void) { sink = nx584_write(message, count % 19, bytes[0] & 1, out, sizeof out, 0).length; }
+static void call_write(void) { sink = nx584_write(message, message_count, framing, out, sizeof out, 0).length; }
 static void call_reply(void) { sink = nx584_reply(bytes[0] % 10, bytes[1]); }
-static void call_apply(void) { sink = nx584_apply(table, sizeof table, message, count % 19); }
+static void call_apply(void) { sink = nx584_apply(table, sizeof table, message, message_count); }
 static void call_view(void) { sink = nx584_view(table, sizeof table).site.heard; }
 static void call_zone(void) { sink = nx584_zone(table, sizeof table, bytes[0]).mark; }
 static void call_partition(void) { sink = nx584_partition(table, sizeof table, bytes[0]).mark; }
 static void call_system(void) { sink = nx584_system(table, sizeof table).mark; }
 static void call_hear(void) { sink = nx584_hear(reader, table, sizeof table, bytes, count).used; }
-static void call_take(void) { sink = nx584_take(slots, NX584_SLOTS, message, count % 19).length; }
+static void call_take(void) { sink = nx584_take(slots, NX584_SLOTS, message, message_count).length; }
 static void call_tick(void) { sink = nx584_tick(slots, NX584_SLOTS).length; }
-static void call_told(void) { sink = nx584_told(slots, NX584_SLOTS, message, count % 19).length; }
+static void call_told(void) { sink = nx584_told(slots, NX584_SLOTS, message, message_count).length; }
 
 static const struct {
     const char *name;
@@ -52,7 +53,8 @@ static const struct {
              {"nx584_view", call_view}, {"nx584_zone", call_zone}, {"nx584_partition", call_partition}, {"nx584_system", call_system},
              {"nx584_hear", call_hear}, {"nx584_take", call_take}, {"nx584_tick", call_tick}, {"nx584_told", call_told}};
 
-/* ---- inputs: half of them good messages' frames, read by a fresh reader; slots with any number of commands that wait */
+/* ---- inputs: good messages' frames and long ones, read by a fresh reader or by one in the midst of them, and any bytes; slots with any number of commands
+ * that wait */
 
 static void make_slots(void)
 {
@@ -63,25 +65,73 @@ static void make_slots(void)
         nx584_take(slots, NX584_SLOTS, bypass, sizeof bypass);
 }
 
+static void make_bytes(void)
+{
+    for (count = 0; count < sizeof bytes; count++)
+        bytes[count] = chance() % 8 ? chance() : (uint8_t)"\x7e\x7d\n\r0AF\x12"[chance() % 8];
+    count = chance() % 64;
+}
+
+static void put_byte(uint8_t byte)
+{
+    if (framing == NX584_ASCII) {
+        bytes[count++] = (uint8_t)"0123456789ABCDEF"[byte >> 4];
+        bytes[count++] = (uint8_t)"0123456789ABCDEF"[byte & 15];
+    } else if (byte == 0x7D || byte == 0x7E) {
+        bytes[count++] = 0x7D;
+        bytes[count++] = byte ^ 0x20;
+    } else {
+        bytes[count++] = byte;
+    }
+}
+
+/* The frame of a message as document 01 has it: the library writes those of the 41 alone. */
+static void make_frame(uint8_t length)
+{
+    unsigned sum1 = length % 255, sum2 = sum1;
+    bytes[0] = framing == NX584_ASCII ? '\n' : 0x7E;
+    count = 1;
+    put_byte(length);
+    for (size_t k = 0; k < length; k++) {
+        put_byte(message[k]);
+        sum1 = (sum1 + message[k]) % 255;
+        sum2 = (sum2 + sum1) % 255;
+    }
+    put_byte((uint8_t)sum1);
+    put_byte((uint8_t)sum2);
+    if (framing == NX584_ASCII)
+        bytes[count++] = '\r';
+}
+
+/* The beginning of the bytes is read, often all but the last one: of the longest frame in ASCII the reader then holds all that it has room for. */
+static void read_some(void)
+{
+    size_t some = chance() % 2 ? count - 1 : chance() % count;
+    nx584_reading a = nx584_read(reader, bytes, some);
+    reader = a.reader;
+    memmove(bytes, bytes + a.used, count - a.used);
+    count -= a.used;
+}
+
 static void make_input(void)
 {
     static const uint8_t numbers[] = {4, 5, 6, 7, 8, 0x1D, 0x1E, 0x03, 0x3B, 0x29, 0x3F}, lengths[] = {8, 10, 9, 9, 12, 1, 1, 18, 7, 4, 2};
     size_t which = chance() % sizeof numbers;
     for (size_t k = 0; k < sizeof message; k++)
         message[k] = chance() % 16 ? chance() : 1;
-    for (size_t k = 0; k < sizeof bytes; k++)
-        bytes[k] = chance() % 8 ? chance() : (uint8_t)"\x7e\x7d\n\r0AF\x12"[chance() % 8];
-    message[0] = numbers[which];
+    message[0] = chance() % 4 ? numbers[which] : 0x22;
     message[1] &= 7;
-    count = chance() % 2 ? lengths[which] : chance() % sizeof bytes;
-    reader = nx584_fresh(bytes[0] & 1);
+    message_count = lengths[which];
+    if (chance() % 4 == 0)
+        message_count = chance() % 2 ? sizeof message - chance() % 2 : chance();
+    framing = chance() & 1;
+    reader = nx584_fresh(framing);
     make_slots();
-    if (chance() % 2) {
-        nx584_written w = nx584_write(message, lengths[which], bytes[0] & 1, out, sizeof out, 0);
-        memcpy(bytes, out, w.length);
-        if (w.length > 0)
-            count = w.length;
-    }
+    make_bytes();
+    if (chance() % 4)
+        make_frame((uint8_t)message_count);
+    if (chance() % 2 && count > 0)
+        read_some();
 }
 
 /* ---- painting */
