@@ -31,7 +31,7 @@ static const char usage[] =
     "end the program; a terminal then has its settings of before.\n"
     "Status: 0 ended well, 1 the line or a file failed, 2 wrong use.\n";
 
-enum { COMMAND_TEXT = 256 }; /* more than the longest line that can be a message */
+enum { COMMAND_TEXT = 1024 }; /* more than the longest line that can be a message */
 
 struct unit {
     const char *line; /* NULL: standard input and output */

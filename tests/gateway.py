@@ -4,7 +4,8 @@
 usage: tests/gateway.py SEED -- HOST [WORD...]
 
 The gateway answers at once, late, after some sendings, with 1Eh, or not at all, talks of other things meanwhile, and cuts its
-bytes anywhere. Every command ends in the way that it chose. Ends 'N passed, M failed'."""
+bytes anywhere. Every command ends in the way that it chose. One of newer firmware sends long messages until they are rejected.
+Ends 'N passed, M failed'."""
 import os
 import re
 import sys
@@ -12,7 +13,7 @@ import time
 
 sys.dont_write_bytecode = True
 import lines  # noqa: E402
-from lines import FRAMINGS, PATIENCE, Host, Line, Trials, frame, until  # noqa: E402
+from lines import FRAMINGS, PATIENCE, Host, Line, Trials, frame, framed, long_message, summed, until  # noqa: E402
 
 TICK = 0.1  # seconds, in place of a half: a command is given up after 24, which a gateway that gets little time must not miss
 REPLIES = (b"\x1d", b"\x1e", b"\x1f")
@@ -239,10 +240,13 @@ class Commands(Trials):
         table = [("zz", no_bytes), ("3F0", no_bytes), ("3F 09", None), ("1D", "13, it is none of the 14 commands"),
                  ("24 09", "13, it is none of the 14 commands"), ("3F", "7, the length is not that of its number"),
                  ("02 00", "6, the number is none of the 41"), ("7F 09", "6, the number is none of the 41"),
-                 ("3D 08 01 02", "8, a value is out of its range"), ("00" * 19, "4, longer than a message can be"),
-                 ("3F " * 300, no_bytes), ("bf0a", None)]
+                 ("3D 08 01 02", "8, a value is out of its range"), ("00" * 19, "6, the number is none of the 41"),
+                 ("00 " * 255, "6, the number is none of the 41"), ("3F " * 255, "7, the length is not that of its number"),
+                 ("3F " * 256, "4, longer than a message can be"), ("3F" + "09" * 257, "4, longer than a message can be"),
+                 ("3F " * 400, no_bytes), ("bf0a", None)]
         text = "\n".join(row[0] for row in table)
         refusals = [f"command {k} refused: {why}" for k, (_, why) in enumerate(table, 1) if why]
+        sent = [f"command {k} (3F) acknowledged" for k, (_, why) in enumerate(table, 1) if not why]
         line = Line(os.path.join(home, "line"))
         gateway = Gateway(self.chance, line, "binary", [b"\x3f\x09", b"\x3f\x0a"], ["at once"] * 2)
         host = self.started(home, line, self.file_of(home, text))
@@ -250,7 +254,7 @@ class Commands(Trials):
         said = ways(host.said())
         self.note(f"{len(refusals)} refused lines, each told with its number and why; the two others are sent", self.hearing, served,
                   [way for way in said if "refused" in way] == refusals, gateway.as_often_as_planned(),
-                  [way for way in said if "refused" not in way] == ["command 3 (3F) acknowledged", "command 12 (3F) acknowledged"])
+                  [way for way in said if "refused" not in way] == sent, len(sent) == 2)
         self.note("and the program ends well", host.end() == 0)
         host.leave()
         line.close()
@@ -297,6 +301,39 @@ class Commands(Trials):
         host.leave()
         line.close()
 
+    def is_answered(self, line, data, before, reply, waits):
+        """Sends a frame, cut anywhere: nothing comes before its last byte, where that is waited for, and then just the reply."""
+        for piece in self.pieces(data[:-1]):
+            line.send(piece)
+            time.sleep(0.001)
+        silent = not waits or (until(line.is_read) and line.heard == before)
+        line.send(data[-1:])
+        return silent and line.hears(before + reply) and line.heard == before + reply
+
+    def until_rejected(self, home, framing):
+        """Long messages of newer firmware: it sends one again after a 1Eh, as to a wrong sum, and is done with it at a 1Fh."""
+        words, lengths = FRAMINGS[framing], [19, 20, 124, 125, 126, 127, 253, 254, 255] + self.chance.sample(range(21, 253), 6)
+        negative, rejected = frame(framing, b"\x1e"), frame(framing, b"\x1f")
+        line, said, replies, answered = Line(os.path.join(home, "line")), b"", b"", []
+        host = self.started(home, line, words)
+        for k, length in enumerate(lengths):
+            message = long_message(self.chance, length)
+            wrong = summed(message)[:-1] + bytes([summed(message)[-1] ^ 1])
+            for data, reply in [(framed(framing, wrong), negative)] * (k % 2) + [(frame(framing, message), rejected)]:
+                answered.append(self.is_answered(line, data, replies, reply, k % 4 == 0))
+                said, replies = said + data, replies + reply
+        last = frame(framing, b"\x87" + bytes(8))
+        line.send(last)
+        said, replies = said + last, replies + frame(framing, b"\x1d")
+        read, ended, heard, table = line.hears(replies) and until(line.is_read), host.end(), bytes(line.heard), host.table()
+        self.note(f"{framing}: {len(lengths)} long unknown messages, each rejected once, at its last byte", self.hearing, *answered,
+                  read, ended == 0, heard == replies)
+        host.leave()
+        line.close()
+        status, uncut, replies, _ = self.uncut(home, said, words)
+        self.note(f"{framing}: the table and the replies are those of the {len(said)} bytes, uncut", status == 0, table == uncut,
+                  heard == replies)
+
     def half_seconds(self, home):
         path = os.path.join(home, "commands")
         line = Line(os.path.join(home, "line"))
@@ -318,6 +355,7 @@ class Commands(Trials):
     def run(self, home):
         for framing in FRAMINGS:
             self.as_chosen(home, framing)
+            self.until_rejected(home, framing)
         self.on_a_busy_line(home)
         self.refused(home)
         self.on_a_descriptor(home)

@@ -44,11 +44,14 @@ def summed(message):
     return bytes([len(message)]) + message + bytes([sum1, sum2])
 
 
-def frame(framing, message):
+def framed(framing, data):
     if framing == "ascii":
-        return b"\n" + summed(message).hex().upper().encode() + b"\r"
-    stuffed = summed(message).replace(b"\x7d", b"\x7d\x5d").replace(b"\x7e", b"\x7d\x5e")
-    return b"\x7e" + stuffed
+        return b"\n" + data.hex().upper().encode() + b"\r"
+    return b"\x7e" + data.replace(b"\x7d", b"\x7d\x5d").replace(b"\x7e", b"\x7d\x5e")
+
+
+def frame(framing, message):
+    return framed(framing, summed(message))
 
 
 def are_replies(framing, data):
@@ -67,11 +70,16 @@ def message(chance):
     return bytes([number | chance.choice((0, 0x80))] + body)
 
 
+def long_message(chance, length):
+    """Of a number that there is not, or with bit 6 set: longer than each of the 41."""
+    return bytes([chance.choice((0x22, 0xA2, 0x44, 0xC4))] + [chance.randrange(256) for _ in range(length - 1)])
+
+
 def stream(chance, framing, frames=80):
-    """Frames, some of them damaged, and noise: what a terminal would take as keys is among the bytes."""
+    """Frames, some of them long or damaged, and noise: what a terminal would take as keys is among the bytes."""
     parts = []
-    for _ in range(frames):
-        part = bytearray(frame(framing, message(chance)))
+    for k in range(frames):
+        part = bytearray(frame(framing, message(chance) if k % 10 else long_message(chance, chance.randrange(19, 256))))
         if chance.randrange(6) == 0:
             part[chance.randrange(len(part))] ^= 1 << chance.randrange(8)
         if chance.randrange(6) == 0:
