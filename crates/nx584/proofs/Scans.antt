@@ -113,19 +113,19 @@ scans-sound c bs reader used said h size w =
 
 -- ---- the message of a scan
 
-module _ (c : CReader) (bs : List ℕ) (s : CScanned) (after : List ℕ) (w : CScans c bs s after) where
-  -- where it stands, as code finds it
-  pub message-at : take (s .length + 1 - 1) (drop 1 after) ≡ messageIn s after
-  message-at = let same : s .length + 1 - 1 ≡ s .length = omega arith in rw same
+-- the bytes before an end that stands one beyond them
+pub before-end : (n : ℕ) (l : List ℕ) → take (n + 1 - 1) l ≡ take n l
+before-end n l = let same : n + 1 - 1 ≡ n = omega arith in rw same
 
-  -- and where there is none
+module _ (c : CReader) (bs : List ℕ) (s : CScanned) (after : List ℕ) (w : CScans c bs s after) where
+  -- where there is none, its array is zero
   pub no-message-at : s .length ≡ 0 → replicate longest 0 ≡ padded (messageIn s after)
   no-message-at e = rw e
 
   -- the answer with a message in its array, and without one
-  pub took-message : (message : List ℕ) → message ≡ padded (take (s .length + 1 - 1) (drop 1 after))
+  pub took-message : (message : List ℕ) → message ≡ padded (messageIn s after)
       → tookIn s after message ≡ cReading (cRead c bs)
-  took-message message e = ap (tookIn s after) (e ∙ ap padded message-at) ∙ w .says
+  took-message message e = ap (tookIn s after) e ∙ w .says
 
   pub took-none : s .length ≡ 0 → tookIn s after (replicate longest 0) ≡ cReading (cRead c bs)
   took-none e = ap (tookIn s after) (no-message-at e) ∙ w .says

@@ -16,7 +16,8 @@ ghost use lib.Dec.{eqb};
 ghost use mathlib.Core.List.{List, [], _∷_, map};
 ghost use Prim.Native.Nat.{ℕ, _+_, _≤_};
 ghost use lib.Ieee.{nan};
-ghost use lib.ListN.{length, take};
+ghost use lib.ListN.{length, take, drop};
+ghost use lib.ListN.{length as ListN·length};
 ghost use Rattle.standard.specs.Judge.{handedIn};
 ghost use Rattle.standard.specs.Messages.{longest, longestKnown};
 ghost use Rattle.standard.specs.Replies.{replyOf};
@@ -266,13 +267,15 @@ fn c_group(group: Group) -> CGroup
     }
 }
 
-// A good message in its array, zero beyond its length: one of the 41.
-fn in_array(message: &[u8]) -> [u8; LONGEST]
-    requires { ⌜ length (now message) ≤ longestKnown ⌝ }
-    ensures { λ r. ⌜ r ≡ padded (now (message .entry)) ⌝ }
+// The message of so many bytes that stands in a frame after its length byte, in an array that is zero
+// beyond it.
+fn message_of(length: u8, frame: &[u8]) -> [u8; LONGEST]
+    requires { ⌜ (length ≤ longestKnown) × (ListN·length (now frame) ≡ longest + 3) ⌝ }
+    ensures { λ r. ⌜ r ≡ padded (take length (drop 1 (now (frame .entry)))) ⌝ }
 {
+    let end = length as usize + 1;
     let mut array = [0u8; LONGEST];
-    bytes::copy(message, &mut array);
+    bytes::copy(&frame[1..end], &mut array);
     array
 }
 
@@ -404,12 +407,14 @@ fn no_table(reader: CReader) -> CHearing
     }
 }
 
-// A good message goes into the table.
-fn store(table: &mut [u8], verdict: u8, message: &[u8])
-    ensures { λ _. ⌜ now (table .exit) ≡ cond (eqb verdict 0) (appliedTo (now (table .entry)) (now (message .entry))) (now (table .entry)) ⌝ }
+// A good message, which stands in the frame after its length byte, goes into the table.
+fn store(table: &mut [u8], verdict: u8, length: u8, frame: &[u8])
+    requires { ⌜ (length ≤ longestKnown) × (ListN·length (now frame) ≡ longest + 3) ⌝ }
+    ensures { λ _. ⌜ now (table .exit) ≡ cond (eqb verdict 0) (appliedTo (now (table .entry)) (take length (drop 1 (now (frame .entry))))) (now (table .entry)) ⌝ }
 {
+    let end = length as usize + 1;
     if verdict == 0 {
-        table::store(table, message);
+        table::store(table, &frame[1..end]);
     }
 }
 
@@ -438,8 +443,7 @@ pub extern "C" fn nx584_read(reader: CReader, bytes: &[u8]) -> CReading
     if scanned.length == 0 {
         return took(scanned, frame, [0u8; LONGEST]);
     }
-    let end = scanned.length as usize + 1;
-    took(scanned, frame, in_array(&frame[1..end]))
+    took(scanned, frame, message_of(scanned.length, &frame))
 }
 
 // A read of one byte, which `nx584_read` could do too: its whole answer would be copied once more.
@@ -460,8 +464,7 @@ pub extern "C" fn nx584_step(reader: CReader, byte: u8) -> CReading
     if scanned.length == 0 {
         return took(scanned, frame, [0u8; LONGEST]);
     }
-    let end = scanned.length as usize + 1;
-    took(scanned, frame, in_array(&frame[1..end]))
+    took(scanned, frame, message_of(scanned.length, &frame))
 }
 
 // The frame of a message, into the part of `out` that starts at `place`.
@@ -539,13 +542,12 @@ pub extern "C" fn nx584_hear(reader: CReader, table: &mut [u8], bytes: &[u8]) ->
         &mut frame,
         bytes,
     );
-    let end = scanned.length as usize + 1;
-    store(table, scanned.verdict, &frame[1..end]);
+    store(table, scanned.verdict, scanned.length, &frame);
     let reply = nx584_reply(scanned.verdict, scanned.type_byte);
     if scanned.length == 0 {
         return heard(scanned, frame, reply, [0u8; LONGEST]);
     }
-    heard(scanned, frame, reply, in_array(&frame[1..end]))
+    heard(scanned, frame, reply, message_of(scanned.length, &frame))
 }
 
 // What a table says of a zone.

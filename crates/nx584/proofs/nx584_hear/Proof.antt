@@ -13,7 +13,7 @@ use Rattle.nx584.specs.declared.CReading.{CReading}
 use Rattle.nx584.specs.Boundary.{padded, withReply, cHearing, cRead, CGiven, CHears}
 use Rattle.nx584.specs.Scan.{messageIn, tookIn}
 use Rattle.nx584.proofs.InC.{heard-c, heard-refused, hear-refused, reply-said}
-use Rattle.nx584.proofs.Scans.{message-at, no-message-at, scanned-stored}
+use Rattle.nx584.proofs.Scans.{no-message-at, scanned-stored}
 use borrow.Author.Needs.{needs}
 use Rattle.nx584.proofs.nx584_hear.Statement.{statement}
 use Rattle.nx584.proofs.nx584_hear.Tie as tie
@@ -27,7 +27,7 @@ frame c = c .scan-c .last .1 .1 .1 .1 .0
 
 -- the scan before a reply
 abbrev scan : tie.After-nx584-reply → tie.After-scan-c
-scan c = c .before .before .before .before .before .before .before .before .before
+scan c = c .before .before .before .before .before .before .before
 
 -- the answer, with the message in its array, and the table
 answer : (c : tie.After-nx584-reply) (message : List ℕ) → let s = scan c .scan-c .result in
@@ -50,8 +50,6 @@ answer c message e =
       says = ap₂ withReply took reply ∙ sym (ap cHearing line);
       leaves =
           c .before .before .before .store .ensures
-          ∙ ap (λ (m : List ℕ). cond (eqb (s .verdict) 0) (appliedTo t m) t)
-          (message-at (a .reader) bs s (frame (scan c)) w)
           ∙ scanned-stored (a .reader) bs s (frame (scan c)) w t
           ∙ sym (ap (λ (x : CGiven). tableAfter t (x .said)) line);
     }
@@ -79,25 +77,12 @@ slice-aggregate-scan-c c = search needs
 scan-c-requires : tie.Need-scan-c-requires
 scan-c-requires c κs = search needs
 
-cast-end : tie.Need-cast-end
-cast-end c = search needs
-
-add-end : tie.Need-add-end
-add-end c = search needs
-
-sub-store : tie.Need-sub-store
-sub-store c = search needs
-
-part-store-start : tie.Need-part-store-start
-part-store-start c = search needs
-
-part-store-end : tie.Need-part-store-end
-part-store-end c =
-    let scan = c .before .before .before .before in
-    omega (arith, scan .scan-c .ensures .sized, scan .scan-c .ensures .few)
+slice-aggregate-store : tie.Need-slice-aggregate-store
+slice-aggregate-store c = search needs
 
 store-requires : tie.Need-store-requires
-store-requires c κs = search needs
+store-requires c κs =
+    let from = c .before .before .before in (from .scan-c .ensures .few, from .scan-c .ensures .sized)
 
 nx584-reply-requires : tie.Need-nx584-reply-requires
 nx584-reply-requires c κs = search needs
@@ -118,21 +103,12 @@ returns-2 c =
     (no-message-at (a .reader) (a .bytes .now) (from .scan-c .result) (frame from) (from .scan-c .ensures)
     (c .before .if2 .taken)))
 
-sub-in-array : tie.Need-sub-in-array
-sub-in-array c = search needs
+slice-aggregate-message-of : tie.Need-slice-aggregate-message-of
+slice-aggregate-message-of c = search needs
 
-part-in-array-start : tie.Need-part-in-array-start
-part-in-array-start c = search needs
-
-part-in-array-end : tie.Need-part-in-array-end
-part-in-array-end c =
-    let from = scan (c .before .before .before) in
-    omega (arith, from .scan-c .ensures .sized, from .scan-c .ensures .few)
-
-in-array-requires : tie.Need-in-array-requires
-in-array-requires c κs =
-    let from = scan (c .before .before .before .before) in
-    simp length-take (omega (arith, from .scan-c .ensures .few))
+message-of-requires : tie.Need-message-of-requires
+message-of-requires c κs =
+    let from = scan (c .before .before .before) in (from .scan-c .ensures .few, from .scan-c .ensures .sized)
 
 heard-requires-2 : tie.Need-heard-requires-2
 heard-requires-2 c κs = search needs
@@ -142,13 +118,7 @@ same-length-3 c = search needs
 
 returns-3 : tie.Need-returns-3
 returns-3 c =
-    let reply = c .before .before .before .before .before .before in
-    let from = scan reply in
-    let a = call from .args in
-    rw (c .heard2 .ensures)
-    (answer reply _
-    (c .before .in-array .ensures ∙ ap padded
-    (message-at (a .reader) (a .bytes .now) (from .scan-c .result) (frame from) (from .scan-c .ensures))))
+    rw (c .heard2 .ensures) (answer (c .before .before .before .before .before) _ (c .before .message-of .ensures))
 
 pub nx584-hear-spec : {M : Type 1} → statement M
 nx584-hear-spec =
@@ -160,20 +130,14 @@ nx584-hear-spec =
     returns
     slice-aggregate-scan-c
     scan-c-requires
-    cast-end
-    add-end
-    sub-store
-    part-store-start
-    part-store-end
+    slice-aggregate-store
     store-requires
     nx584-reply-requires
     heard-requires
     same-length-2
     returns-2
-    sub-in-array
-    part-in-array-start
-    part-in-array-end
-    in-array-requires
+    slice-aggregate-message-of
+    message-of-requires
     heard-requires-2
     same-length-3
     returns-3)
