@@ -52,15 +52,15 @@ extern "C" {
 /* ---- sizes */
 
 #define NX584_LONGEST 255          /* the longest message that is read, its type byte included */
-#define NX584_BINARY_FRAME_MOST 41 /* the longest binary frame */
-#define NX584_FRAME_MOST 44        /* the longest frame in either framing */
+#define NX584_BINARY_FRAME_MOST 41 /* the longest binary frame that is written */
+#define NX584_FRAME_MOST 44        /* the longest frame that is written, in either framing */
 #define NX584_TABLE_BYTES 2132     /* a table; all zero is a fresh one */
 #define NX584_ZONES 256
 #define NX584_PARTITIONS 8
 #define NX584_GROUPS 16          /* of 16 zones each */
 #define NX584_SLOTS 8            /* of a line of commands; all zero is an empty line */
 #define NX584_LONGEST_COMMAND 13 /* the longest command, its type byte included */
-#define NX584_STACK_MOST 2048    /* of stack in a call, with its operands and its answer; measured */
+#define NX584_STACK_MOST 4096    /* of stack in a call, with its operands and its answer; measured */
 
 /* ---- numbers */
 
@@ -79,14 +79,14 @@ extern "C" {
 #define NX584_CUT_SHORT 1    /* a start byte came before the frame had its verdict */
 #define NX584_NO_DIGIT 2     /* ASCII: no digit where one is due */
 #define NX584_NO_STOP 3      /* ASCII: no 0Dh where the stop is due */
-#define NX584_BAD_LENGTH 4   /* a length of 0; of a message that is handed in, also one above 255 */
+#define NX584_BAD_LENGTH 4   /* a length of 0 */
 #define NX584_BAD_SUMS 5     /* the sums differ */
 #define NX584_UNKNOWN 6      /* the number is none of the 41 */
 #define NX584_WRONG_LENGTH 7 /* the length is not that of its number */
 #define NX584_BAD_VALUE 8    /* a checked value is wrong */
 #define NX584_NONE 255       /* no verdict yet */
 
-/* Refusals, beside 4, 6, 7 and 8. */
+/* Refusals, beside 4, 6, 7 and 8. Of a message that is handed to a call, 4 is also a length above 255. */
 #define NX584_NO_ROOM 9          /* the frame does not fit from its place to the end of the buffer */
 #define NX584_SUM_FF 10          /* a sum byte would be FFh; no message is known to cause it */
 #define NX584_NO_TABLE 11        /* the buffer is not NX584_TABLE_BYTES long */
@@ -120,7 +120,7 @@ extern "C" {
 /* ---- structs */
 
 /* A reader is a value: copy it, keep it, hand it to the next call. held: how many recovered bytes
- * stand in bytes. digit: the pending one. */
+ * stand in bytes, 258 at most. digit: the pending one. */
 typedef struct {
     uint8_t framing, mode, digit;
     uint16_t held;
@@ -128,7 +128,9 @@ typedef struct {
 } nx584_reader;
 
 /* verdict: 0 to 8, 12 or NX584_NONE. type: the whole type byte for 0 and 6 to 8, else 0. length and
- * message: 0 and all zero unless verdict 0; zero beyond length. used: how many bytes were read. */
+ * message: 0 and all zero unless verdict 0; zero beyond length. used: how many bytes were read. A good
+ * message is one of the 41, of 18 bytes at most; a longer one is read, is unknown (6) or none of its
+ * number (7), and is not handed out. */
 typedef struct {
     nx584_reader reader;
     size_t used;
