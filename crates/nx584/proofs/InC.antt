@@ -1,19 +1,18 @@
 -- What is said of a read, in numbers. Assumes nothing.
-use Prim.Native.Nat.{ℕ, _+_, _-_, _≤_, _<_}
-use native.Mathlib.Numerals.{add-one}
+use Prim.Native.Nat.{ℕ, _+_, _≤_}
 use native.Mathlib.Omega.{arith}
-use mathlib.Core.Path.{_≡_, refl, sym, ap, ap₂, _∙_}
-use mathlib.Core.Bool.{Bool, true, false, cond, _&&_}
-use mathlib.Core.List.{List, [], _∷_, _++_, map, head-eq-of-cons-eq, cons≢nil}
-use lib.Dec.{eqb, leb}
-use lib.ListN.{length, getD, take, drop, set, length-drop, length-map, List·getD-map}
-use lib.Seq.{length-take-le, take-suc, take-suc-set, take-append-seam}
-use borrow.Author.Tests.{eq-eqb, ne-eqb, le-leb, lt-leb}
+use mathlib.Core.Path.{_≡_, refl, sym, ap}
+use mathlib.Core.Bool.{Bool, true, false, cond}
+use mathlib.Core.List.{List, [], _∷_, map, head-eq-of-cons-eq, cons≢nil}
+use lib.Dec.{eqb}
+use lib.ListN.{length, take}
+use lib.Seq.{take-append-seam}
+use borrow.Author.Tests.{eq-eqb, ne-eqb}
 use Rattle.standard.specs.declared.Said.{Said}
 use Rattle.standard.specs.declared.Said.the-variants.{Silent, Gave}
 use Rattle.standard.specs.declared.Verdict.{Verdict}
 use Rattle.standard.specs.Messages.{longest, longestKnown}
-use Rattle.standard.specs.Judge.{Handed, handing, carriesType, verdictFor, verdictsIn, handedIn}
+use Rattle.standard.specs.Judge.{Handed, handing, verdictFor, verdictsIn, handedIn}
 use Rattle.standard.specs.Replies.{replyOf}
 use Rattle.standard.specs.Table.{tableBytes, tableAfter, appliedTo}
 use Rattle.standard.proofs.Messages.{both-true}
@@ -25,21 +24,9 @@ use Rattle.reader.proofs.State.Short.{Short, read-short}
 use Rattle.reader.proofs.State.Handing.{saidFor, one-verdict}
 use Rattle.host.specs.Hear.{replyTo}
 use Rattle.nx584.specs.declared.CReader.{CReader}
-use Rattle.nx584.specs.declared.CReading.{CReading}
-use Rattle.nx584.specs.Boundary.{readerFor, modeOk, soundC, numberSaid, typeSaid, messageSaid, lengthSaid, numbersSaid}
-use Rattle.nx584.specs.Boundary.{padded, cReader, cReading, withReply, cHearing, CGiven, cTook, cRefused, cRead}
+use Rattle.nx584.specs.Boundary.{readerFor, modeOk, soundC, numberSaid, typeSaid, messageSaid, lengthSaid}
+use Rattle.nx584.specs.Boundary.{numbersSaid, padded, cReader, cHearing, cTook, cRefused, cRead}
 use Rattle.nx584.specs.Boundary.{cHeard, CHears}
-
-same-both : {A : Type 0} (t : Bool) (x : A) → cond t x x ≡ x
-same-both true x = refl
-same-both false x = refl
-
--- a refusal carries no type byte and no message
-pub no-type : (number : ℕ) → typeSaid (handing number [] ∷ []) ≡ 0
-no-type number = same-both {A = ℕ} (carriesType number) 0
-
-pub no-message : (number : ℕ) → messageSaid (handing number [] ∷ []) ≡ []
-no-message number = same-both {A = List ℕ} (eqb number 0) []
 
 -- a message that is handed out is no longer than the longest of the 41
 pub few-said : (said : Said) (hs : List Handed) → verdictsIn said ≡ map verdictFor hs → Short hs
@@ -58,29 +45,6 @@ no-mode c h = rw h
 pub a-mode : (c : CReader) → modeOk (c .mode) (c .digit) ≡ true → soundC c ≡ soundReader (readerFor c)
 unfolding soundC
 a-mode c h = rw h
-
--- an answer, from a verdict of code and a message in its array
-abbrev pub answered : CReader → ℕ → Verdict → List ℕ → CReading
-answered reader used v message = record {
-  reader = reader;
-  used = used;
-  verdict = v .number;
-  «type_byte» = v .«type_byte»;
-  length = v .length;
-  message = message;
-}
-
--- a verdict and its message, which stands in the reader's bytes
-pub gave-line : (reader : CReader) (used : ℕ) (v : Verdict) (bytes message : List ℕ) → v .length + 1 ≤ length bytes
-    → message ≡ padded (take (v .length + 1 - 1) (drop 1 bytes))
-    → answered reader used v message
-    ≡ cReading (record { reader = reader; used = used; said = handedIn (Gave v) bytes })
-gave-line reader used v bytes message h e =
-    let same : v .length + 1 - 1 ≡ v .length = omega arith in
-    let rest = drop 1 bytes in
-    let room : v .length ≤ length rest = omega (arith, length-drop 1 bytes) in
-    let size : length (take (v .length) rest) ≡ v .length = length-take-le (v .length) rest room in
-    rw (e, same, size)
 
 -- ---- a read by numbers
 
@@ -135,14 +99,6 @@ hear-refused c t bs number e z =
 pub length-said : (said : Said) → numbersSaid said .length ≡ lengthSaid said
 length-said Silent = refl
 length-said (Gave v) = refl
-
--- an answer with or without a verdict, and its message
-pub said-c : (reader : CReader) (used : ℕ) (said : Said) (bytes message : List ℕ) → lengthSaid said + 1 ≤ length bytes
-    → message ≡ padded (take (numbersSaid said .length + 1 - 1) (drop 1 bytes))
-    → answered reader used (numbersSaid said) message
-    ≡ cReading (record { reader = reader; used = used; said = handedIn said bytes })
-said-c reader used Silent bytes message h e = rw e
-said-c reader used (Gave v) bytes message h e = gave-line reader used v bytes message h e
 
 pub reply-said : (hs : List Handed) → replyOf (numberSaid hs) (typeSaid hs) ≡ replyTo hs
 unfolding replyOf

@@ -1,4 +1,5 @@
--- `scan_c` from what `reader::scan` promises: 12 exactly where the reader is not sound, and else the read. Assumes nothing.
+-- `scan_c` from what `reader::scan` promises: 12 exactly where the reader is not sound, and else the read.
+-- Assumes nothing.
 use Prim.Native.Nat.{ℕ, _+_, _-_, _≤_}
 use native.Mathlib.Omega.{arith}
 use mathlib.Core.Path.{_≡_, refl, sym, ap, _∙_}

@@ -43,7 +43,8 @@ tookIn s bytes message = record {
 abbrev pub readingIn : CScanned → List ℕ → CReading
 readingIn s bytes = tookIn s bytes (padded (messageIn s bytes))
 
--- the scan's numbers and the frame's bytes after it are the read's answer; its message is one of the 41, and stands in them
+-- the scan's numbers and the frame's bytes after it are the read's answer; its message is one of the 41, and stands in
+-- them
 pub record CScans (c : CReader) (bs : List ℕ) (s : CScanned) (after : List ℕ) : Type 0 where
   pub says : readingIn s after ≡ cReading (cRead c bs)
   pub few : s .length ≤ longestKnown

@@ -291,7 +291,8 @@ passed-partition m p e = leb-true (byte 2 m) 7 (sym (values-partition m (numberO
 pub good-few : (m : List ℕ) → checkOf m ≡ 0 → length m ≤ longestKnown
 good-few m h =
     let n = numberOf (byte 1 m) in
-    subst (λ k. k ≤ longestKnown) (sym (passed-number m n (passed m h) refl)) (known-most n (mod-lt (byte 1 m) (lit< tt)))
+    let few = known-most n (mod-lt (byte 1 m) (lit< tt)) in
+    subst (λ k. k ≤ longestKnown) (sym (passed-number m n (passed m h) refl)) few
 
 -- ---- which lengths are read
 

@@ -1,5 +1,4 @@
-use borrow.Author.Tests.{eq-eqb, ne-eqb, le-leb, lt-leb}
-use native.Mathlib.Omega.{arith}
+use borrow.Author.Tests.{ne-eqb, le-leb, lt-leb}
 use Rattle.nx584.proofs.mode_ok.Statement.{statement}
 use Rattle.nx584.proofs.mode_ok.Tie as tie
 

@@ -1,13 +1,9 @@
-use Prim.Native.Nat.{ℕ, _+_, _≤_}
+use Prim.Native.Nat.{ℕ}
 use native.Mathlib.Omega.{arith}
 use mathlib.Core.Path.{_≡_, sym, ap, ap₂, _∙_}
-use mathlib.Core.Bool.{cond}
 use mathlib.Core.List.{List}
-use lib.Dec.{eqb}
-use lib.ListN.{length, length-take}
-use Rattle.standard.specs.Messages.{longest}
 use Rattle.standard.specs.Replies.{replyOf}
-use Rattle.standard.specs.Table.{tableAfter, appliedTo}
+use Rattle.standard.specs.Table.{tableAfter}
 use Rattle.standard.proofs.Questions.{asked-whole, whole-asked}
 use Rattle.nx584.specs.declared.CReading.{CReading}
 use Rattle.nx584.specs.Boundary.{padded, withReply, cHearing, cRead, CGiven, CHears}

@@ -30,7 +30,8 @@ returns c =
     let scan = c .before .before .before .before in
     let a = call scan .args in
     c .took .ensures
-    ∙ took-none (a .reader) (a .byte ∷ []) (scan .scan-c .result) (frame scan) (scan .scan-c .ensures) (c .before .if1 .taken)
+    ∙ took-none (a .reader) (a .byte ∷ []) (scan .scan-c .result) (frame scan) (scan .scan-c .ensures)
+    (c .before .if1 .taken)
 
 slice-aggregate-message-of : tie.Need-slice-aggregate-message-of
 slice-aggregate-message-of c = search needs
