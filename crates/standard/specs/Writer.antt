@@ -20,7 +20,7 @@ sumIsFF m = eqb (sumsOf (length m ∷ m) .one) 0xFF || eqb (sumsOf (length m ∷
 abbrev pub noRoom : ℕ → ℕ → ℕ → Bool
 noRoom frame place size = ltb (size - place) frame || ltb size place
 
--- "Order: 4 (empty message or over 18), 6, 7, 8, 10, 9"
+-- "Order: 4 (empty message or over" 255 "), 6, 7, 8, 10, 9"
 unfoldable pub writeRefusal : List ℕ → Framing → List ℕ → ℕ → ℕ
 writeRefusal m f out place =
     firstOf (messageTests m ++ ((sumIsFF m, 10) ∷ (noRoom (length (frameOf f m)) place (length out), 9) ∷ []))
