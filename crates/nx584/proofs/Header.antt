@@ -23,6 +23,7 @@ use Rattle.standard.specs.Overview.{Counted, Seen, counted, groupNumbers, heard
 use Rattle.standard.specs.Overview.{seenOf}
 use Rattle.standard.specs.Questions.{tableRefusal, partitionRefusal, partitionPart, systemPart}
 use Rattle.standard.proofs.Questions.{whole-asked}
+use Rattle.reader.specs.declared.Mode.the-variants.{Open}
 use Rattle.reader.specs.Step.{stepOf}
 use Rattle.reader.specs.Read.{freshReader, scanOf, readOf}
 use Rattle.commands.specs.declared.Ended.the-variants.{Not, GivenUp, Acknowledged, Failed, Rejected, Replied}
@@ -35,7 +36,7 @@ use Rattle.nx584.specs.declared.CHearing.{CHearing}
 use Rattle.nx584.specs.declared.CWritten.{CWritten}
 use Rattle.nx584.specs.declared.CGroup.{CGroup}
 use Rattle.nx584.specs.declared.COverview.{COverview}
-use Rattle.nx584.specs.Boundary.{framingFor, cReader, soundC, padded, CGiven, cRefused, cRead, cReading}
+use Rattle.nx584.specs.Boundary.{framingFor, modeFor, cReader, soundC, padded, CGiven, cRefused, cRead, cReading}
 use Rattle.nx584.specs.Boundary.{cHeard, withReply, cHearing, cLeft, cWritten, cGroup, cOverview}
 use Rattle.nx584.specs.declared.CSending.{CSending}
 use Rattle.nx584.specs.Callers.{cFresh}
@@ -245,6 +246,24 @@ module _ (t : List ℕ) (h : length t ≡ tableBytes) where
   system-bytes =
       let size = system-sized t (whole-asked t h) in
       rw (whole-asked t h) (headed (systemPart t) (omega arith))
+
+-- ---- numbers that no call answers
+
+-- a mode above 3 is unsound, and so is mode 3 with a digit above 15, in both framings
+pub mode-above-3 : (c : CReader) → 3 < c .mode → soundC c ≡ false
+unfolding soundC
+mode-above-3 c h = rw (lt-leb (c .mode) 3 h)
+
+pub digit-above-15 : (c : CReader) → c .mode ≡ 3 → 15 < c .digit → soundC c ≡ false
+unfolding soundC
+digit-above-15 c e h = rw (e, lt-leb (c .digit) 15 h)
+
+-- mode 2 in ASCII and mode 3 in binary read as mode 1
+pub escape-in-ascii : (digit : ℕ) → modeFor Ascii 2 digit ≡ Open Ascii
+escape-in-ascii digit = refl
+
+pub digit-in-binary : (digit : ℕ) → modeFor Binary 3 digit ≡ Open Binary
+digit-in-binary digit = refl
 
 -- ---- the line of commands
 
