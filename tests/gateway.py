@@ -134,12 +134,15 @@ class Gateway:
         plan = self.plans[self.at]
         return PLANS[plan][-1][1] if plan not in GIVEN_UP else None
 
-    def turn(self):
+    def listen(self):
         self.line.hear()
         heard, self.rest = taken_frames(self.framing, self.rest + bytes(self.line.heard))
         self.line.heard.clear()
         for message in heard:
             self.hear(message)
+
+    def turn(self):
+        self.listen()
         if self.talks and self.chance.randrange(6) == 0:
             self.talk()
         self.write()
@@ -211,7 +214,7 @@ class Commands(Trials):
         host = self.started(home, line, words + self.file_of(home, text))
         served = gateway.serve(lambda: len(ways(host.said())) >= len(expected))
         ended, said, table = host.end(), host.said(), host.table()
-        gateway.turn()
+        gateway.listen()
         self.note(f"{framing}: {len(commands)} commands, each ended as the gateway chose, in their order", self.hearing, served,
                   ended == 0, ways(said) == expected)
         self.note(f"{framing}: {sum(gateway.sendings)} sendings, at most four of each, flag set, never two commands outstanding",
