@@ -3,7 +3,7 @@ use Prim.Native.Nat.{ℕ, zero, suc, _+_, _-_, _*_, _≤_, _<_}
 use native.Mathlib.Nat.{add-zero}
 use native.Mathlib.Numerals.{add-one}
 use native.Mathlib.Omega.{arith}
-use mathlib.Core.Path.{_≡_, refl, sym, ap, _∙_}
+use mathlib.Core.Path.{_≡_, refl, sym, ap, ap₂, subst, _∙_}
 use mathlib.Core.Logic.{_⊎_, inl, inr}
 use mathlib.Core.Bool.{Bool, true, false, cond, _&&_, _||_}
 use mathlib.Core.Option.{Option, none, some}
@@ -23,7 +23,7 @@ use Rattle.frames.specs.Plain.{orNone, digitIn, stands, standing, plainO
 use Rattle.frames.specs.Plain.{TakesPlain}
 use Rattle.frames.specs.Parts.{Next, Roomy, Lays}
 
--- a character that is no digit is looked up as 16
+-- a character that is no digit is worth 16
 pub no-digit : (c : ℕ) → valueOf c ≡ none → digitIn c ≡ 16
 no-digit c e = ap orNone e
 
@@ -119,6 +119,24 @@ pub went-none : (f : Framing) (bytes : List ℕ) → Went f bytes 0
 went-none Binary bytes = record { line = omega arith; some = omega arith; rest = refl }
 went-none Ascii bytes = record { line = omega arith; some = omega arith; rest = refl }
 
+went-on : {f : Framing} {bytes : List ℕ} {i : ℕ} → Went f bytes i → i < length (plainOf f bytes) → Went f bytes (i + 1)
+went-on {f} {bytes} {i} w h =
+    let P = plainOf f bytes in
+    let rest : drop i P ≡ getD P i 0 ∷ drop (i + 1) P =
+    drop-cons P i 0 h ∙ ap (λ k. getD P i 0 ∷ drop k P) (sym (add-one i)) in
+    let a = after-one f (drop (span f i) bytes) (getD P i 0) (drop (i + 1) P) (w .rest ∙ rest) in
+    record {
+      line = rw (← span-more f i 1) (omega (arith, a .within, length-drop (span f i) bytes, w .line));
+      some = omega arith;
+      rest = ap (λ k. plainOf f (drop k bytes)) (sym (span-more f i 1))
+          ∙ ap (plainOf f) (sym (drop-drop (span f 1) (span f i) bytes)) ∙ a .rest;
+    }
+
+-- as many as there are
+went : (f : Framing) (bytes : List ℕ) (i : ℕ) → i ≤ length (plainOf f bytes) → Went f bytes i
+went f bytes zero h = went-none f bytes
+went f bytes (suc i) h = subst (Went f bytes) (add-one i) (went-on (went f bytes i (omega arith)) (omega arith))
+
 module _ {f : Framing} {bytes : List ℕ} {i x : ℕ} (w : Went f bytes i)
     (n : Next (plainOf f (drop (span f i) bytes)) x) where
   abbrev P : List ℕ
@@ -139,17 +157,7 @@ module _ {f : Framing} {bytes : List ℕ} {i x : ℕ} (w : Went f bytes i)
           (inside, ap (λ p. getD p 0 0) (sym (drop-cons P i 0 inside) ∙ k) ∙ sym (n .first ∙ ap (λ p. getD p 0 256) e))
 
   pub went-one : x ≤ 255 → Went f bytes (i + 1)
-  went-one h =
-      let o = one-more h in
-      let rest : drop i P ≡ getD P i 0 ∷ drop (i + 1) P =
-      drop-cons P i 0 (o .0) ∙ ap (λ k. getD P i 0 ∷ drop k P) (sym (add-one i)) in
-      let a = after-one f (drop (span f i) bytes) (getD P i 0) (drop (i + 1) P) (w .rest ∙ rest) in
-      record {
-        line = rw (← span-more f i 1) (omega (arith, a .within, length-drop (span f i) bytes, w .line));
-        some = omega (arith, o .0);
-        rest = ap (λ k. plainOf f (drop k bytes)) (sym (span-more f i 1))
-            ∙ ap (plainOf f) (sym (drop-drop (span f 1) (span f i) bytes)) ∙ a .rest;
-      }
+  went-one h = went-on w (one-more h .0)
 
   -- it is stored after those before it
   pub stored : x ≤ 255 → (frame : List ℕ) (held : ℕ) → held + i < length frame
@@ -158,6 +166,33 @@ module _ {f : Framing} {bytes : List ℕ} {i x : ℕ} (w : Went f bytes i)
       let o = one-more h in
       ap (set (paste frame held P i) (held + i)) (sym (o .1)) ∙ paste-suc frame held P i 0 room (o .0)
       ∙ ap (paste frame held P) (sym (add-one i))
+
+-- i of them were taken, and are laid after those that were held
+pub record Laid (f : Framing) (bytes frame : List ℕ) (held i : ℕ) (now : List ℕ) : Type 0 where
+  pub went : Went f bytes i
+  pub is : now ≡ paste frame held (plainOf f bytes) i
+
+pub laid-first : (f : Framing) (bytes frame : List ℕ) (held i : ℕ) (now : List ℕ) → now ≡ frame → i ≡ 0
+    → Laid f bytes frame held i now
+laid-first f bytes frame held i now e h = record {
+  went = subst (Went f bytes) (sym h) (went-none f bytes);
+  is = e ∙ paste-zero frame held (plainOf f bytes) ∙ ap (paste frame held (plainOf f bytes)) (sym h);
+}
+
+pub laid-one : {f : Framing} {bytes frame : List ℕ} {held i : ℕ} {now : List ℕ} (x place : ℕ)
+    → Laid f bytes frame held i now → Next (plainOf f (drop (span f i) bytes)) x → x ≤ 255 → place ≡ held + i
+    → held + i < length frame → Laid f bytes frame held (i + 1) (set now place x)
+laid-one {f} {bytes} {frame} {held} {i} {now} x place l n h e room = record {
+  went = went-one (l .went) n h;
+  is = ap₂ (λ a k. set a k x) (l .is) e ∙ stored (l .went) n h frame held room;
+}
+
+pub laid-count : {f : Framing} {bytes frame : List ℕ} {held i j : ℕ} {now : List ℕ} → i ≡ j
+    → Laid f bytes frame held i now → Laid f bytes frame held j now
+laid-count {f} {bytes} {frame} {held} e l = record {
+  went = subst (Went f bytes) e (l .went);
+  is = l .is ∙ ap (paste frame held (plainOf f bytes)) e;
+}
 
 -- so many were stored as are taken
 pub laid-taken : (frame P : List ℕ) (held i most : ℕ) → i ≤ length P → i ≤ most → (length P ≤ i) ⊎ (most ≤ i)
@@ -170,6 +205,22 @@ laid-taken frame P held i most there few all =
     by-all : (length P ≤ i) ⊎ (most ≤ i) → take i P ≡ take most P
     by-all (inl h) = take-all i P h ∙ sym (take-all most P (omega arith))
     by-all (inr h) = let e : i ≡ most = omega arith in ap (λ k. take k P) e
+
+pub laid-lays : {f : Framing} {bytes frame : List ℕ} {held i : ℕ} {now : List ℕ} (most : ℕ)
+    → Laid f bytes frame held i now → i ≤ most → (length (plainOf f bytes) ≤ i) ⊎ (most ≤ i)
+    → Lays held frame (take most (plainOf f bytes)) i now
+laid-lays {f} {bytes} {frame} {held} {i} most l few all =
+    let t = laid-taken frame (plainOf f bytes) held i most (l .went .some) few all in
+    record { count = t .count; lays = l .is ∙ t .lays }
+
+-- and the other way round
+pub taken-laid : {f g : Framing} {bytes frame now after : List ℕ} {held i r : ℕ} → f ≡ g → now ≡ after → i ≡ r
+    → Lays held frame (take r (plainOf g bytes)) r after → Laid f bytes frame held i now
+taken-laid {f} {g} {bytes} {frame} {now} {after} {held} {i} {r} e k n l =
+    let P = plainOf g bytes in
+    let there : r ≤ length P = omega (arith, l .count, length-take r P) in
+    let same = laid-taken frame P held r r there (omega arith) (inr (omega arith)) in
+    rw (e, k, n) (record { went = went g bytes r there; is = l .lays ∙ sym (same .lays) })
 
 -- ---- what an open frame takes
 
@@ -356,9 +407,9 @@ module _ (f : Framing) (n : ℕ) (frame bytes : List ℕ) where
       → Lays n frame (growth f n frame bytes) 0 frame
   bad-grows L e k = grows-none (growth-bad f n frame bytes (ap lengthOk (sym e) ∙ k))
 
-  pub takes-grown : (r : ℕ) (after : List ℕ) → Lays n frame (growth f n frame bytes) r after
-      → TakesPlain f n frame bytes (record { count = r; used = span f r }) after
-  takes-grown r after w = record { count = w .count; used = ap (span f) (w .count); lays = w .lays }
+  pub takes-grown : (r used : ℕ) (after : List ℕ) → Lays n frame (growth f n frame bytes) r after → used ≡ span f r
+      → TakesPlain f n frame bytes (record { count = r; used = used }) after
+  takes-grown r used after w e = record { count = w .count; used = e ∙ ap (span f) (w .count); lays = w .lays }
 
   pub takes-none : growth f n frame bytes ≡ [] → TakesPlain f n frame bytes (record { count = 0; used = 0 }) frame
   takes-none e = record {
@@ -376,10 +427,6 @@ module _ (f : Framing) (n : ℕ) (frame bytes : List ℕ) where
 
   pub takes-wide : longest + 3 < n → growth f n frame bytes ≡ []
   takes-wide h = growth-narrow f n frame bytes (rw (lt-leb n (longest + 3) h))
-
--- binary is not ASCII
-pub not-ascii : Binary ≡ Ascii → ⊥
-not-ascii e = let z : _≡_ {A = ℕ} 2 3 = ap beyond e in omega arith
 
 -- ---- for the reader
 

@@ -7,12 +7,7 @@ use lib.ListN.{length, getD, take}
 use Rattle.standard.specs.declared.Framing.{Framing}
 use Rattle.standard.specs.Words.{laid}
 use Rattle.standard.specs.Messages.{longest, lengthOk, among}
-use Rattle.frames.specs.Plain.{digitIn, beyond, plainOf, growth}
-
--- the table of digits
-pub record Digits (table : List ℕ) : Type 0 where
-  pub sized : length table ≡ 256
-  pub entry : (c : ℕ) → c < 256 → getD table c 0 ≡ digitIn c
+use Rattle.frames.specs.Plain.{beyond, plainOf, growth}
 
 -- no start is among the first n bytes
 pub record Passed (start n : ℕ) (bytes : List ℕ) : Type 0 where

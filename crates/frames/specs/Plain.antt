@@ -14,7 +14,7 @@ use Rattle.standard.specs.Messages.{longest, lengthOk}
 use Rattle.standard.specs.Framing.{valueOf, digitsOf, pairs}
 use Rattle.frames.specs.declared.Taken.{Taken}
 
--- "Digits are looked up in a table of 256 entries": the digit's value, or 16 where there is none
+-- a digit's value, or 16 where there is none
 abbrev pub orNone : Option ℕ → ℕ
 orNone none = 16
 orNone (some d) = d

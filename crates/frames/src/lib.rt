@@ -1,28 +1,31 @@
 // What is decided of a frame's bytes without a reader's mode: where a start is, what a digit is
 // worth, which bytes stand plainly on the line, and the judgement of a whole frame.
 ghost use mathlib.Core.Path.{_≡_};
-ghost use Prim.Native.Nat.{_+_, _≤_};
+ghost use Prim.Native.Nat.{ℕ, _+_, _-_, _*_, _/_, _%_, _≤_};
 ghost use mathlib.Core.Bool.{true};
 ghost use mathlib.Core.List.{[]};
-ghost use lib.ListN.{length, getD, drop};
+ghost use lib.Bits.{bitAnd, bitOr, bitXor};
+ghost use lib.Dec.{eqb};
+ghost use lib.ListN.{length, getD, take, drop, set};
 ghost use Rattle.standard.specs.declared.Framing.the-variants.{Binary, Ascii};
-ghost use Rattle.standard.specs.Messages.{lengthOk, among};
+ghost use Rattle.standard.specs.Messages.{longest, lengthOk, among};
 ghost use Rattle.standard.specs.Judge.{handing, verdictFor};
 ghost use Rattle.standard.specs.Stream.{upToStart};
 ghost use Rattle.frames.specs.Plain.{digitIn, stands, span, beyond, plainOf, lengthOf, TakesPlain};
 ghost use Rattle.frames.specs.Judging.{judgedFrame, saidOf};
-ghost use Rattle.frames.specs.Parts.{Complete, Digits, Passed, Roomy, Next, Runs, Grows};
+ghost use Rattle.frames.specs.Parts.{Complete, Passed, Roomy, Next, Lays, Runs, Grows};
 ghost use Rattle.standard.specs.declared.Said.the-variants.{Gave};
-
-mod digits;
-
-use digits::DIGITS;
 use standard::Framing;
 use standard::Said;
 use standard::Verdict;
 
 // The most recovered bytes: the length, the longest message and two sums.
 const MOST: usize = standard::LONGEST + 3;
+
+// A 1 in the place of each of two and of eight characters.
+const TWO: u64 = 0x0101;
+
+const EIGHT: u64 = 0x0101010101010101;
 
 // So many bytes between frames are looked at together: as many as a vector register holds.
 const BLOCK: usize = 16;
@@ -88,19 +91,38 @@ pub fn before_start(bytes: &[u8], start: u8) -> usize
 
 // ---- plain bytes
 
-// A constant is laid out anew wherever it is used.
-fn digit_table() -> [u8; 256]
-    ensures { λ r. ⌜ Digits r ⌝ }
-{
-    DIGITS
-}
-
-// A digit's value; 16: it is none.
+// A digit's value, "from 0-9 and A-F"; 16: it is none. A difference that wraps makes each range one
+// comparison.
 pub fn digit(c: u8) -> u8
     ensures { λ r. ⌜ r ≡ digitIn c ⌝ }
 {
-    let digits = digit_table();
-    digits[c as usize]
+    let number = std::num::wrapping_sub_u8(c, 48);
+    let letter = std::num::wrapping_sub_u8(c, 65);
+    let other = if letter < 6 { letter + 10 } else { 16 };
+    if number < 10 { number } else { other }
+}
+
+// Several characters are looked at together, since one by one they would take longer than with a
+// table: each has eight bits of a number, the first one the lowest, and `ones` is 1 in the place of
+// each. No sum leaves its eight bits.
+
+// What each character is worth if it is a digit: its low four bits, and 9 more for a letter, which
+// alone has bit 6.
+fn worth(characters: u64, ones: u64) -> u64
+    requires { ⌜ ones ≤ 0x0101010101010101 ⌝ }
+    ensures { λ r. ⌜ r ≡ bitAnd characters (ones * 15) + bitAnd characters (ones * 64) / 64 * 9 ⌝ }
+{
+    (characters & (ones * 15)) + (characters & (ones * 64)) / 64 * 9
+}
+
+// Whether all are digits: each is worth up to 15, and its high four bits are 3 up to 9 and 4 from 10
+// on. All of that is one value and one test.
+fn are_digits(characters: u64, values: u64, ones: u64) -> bool
+    requires { ⌜ (ones ≤ 0x0101010101010101) × (values ≤ ones * 24) ⌝ }
+    ensures { λ r. ⌜ r ≡ eqb (bitOr (bitXor (bitAnd characters (ones * 15) + ones * 48 + bitAnd (values + ones * 6) (ones * 16)) characters) (bitAnd values (ones * 16))) 0 ⌝ }
+{
+    let sent = (characters & (ones * 15)) + ones * 48 + ((values + ones * 6) & (ones * 16));
+    ((sent ^ characters) | (values & (ones * 16))) == 0
 }
 
 // Whether a byte of a binary frame stands for itself: neither 7Dh nor 7Eh.
@@ -132,52 +154,103 @@ fn standing_at(bytes: &[u8], at: usize) -> u16
     if stands(b) { b as u16 } else { 256 }
 }
 
+// The two characters at a place.
+fn two_at(bytes: &[u8], at: usize) -> u16
+    requires { ⌜ at + 2 ≤ length (now bytes) ⌝ }
+    ensures { λ r. ⌜ r ≡ getD (now (bytes .entry)) (at + 1) 0 * 256 + getD (now (bytes .entry)) at 0 ⌝ }
+{
+    bytes[at + 1] as u16 * 256 + bytes[at] as u16
+}
+
+// The eight characters at a place.
+fn eight_at(bytes: &[u8], at: usize) -> u64
+    requires { ⌜ at + 8 ≤ length (now bytes) ⌝ }
+    ensures { λ r. ⌜ (let two : ℕ → ℕ = λ k. getD (now (bytes .entry)) (k + 1) 0 * 256 + getD (now (bytes .entry)) k 0 in r ≡ ((two (at + 6) * 0x10000 + two (at + 4)) * 0x10000 + two (at + 2)) * 0x10000 + two at) ⌝ }
+{
+    let first = two_at(bytes, at) as u64;
+    let second = two_at(bytes, at + 2) as u64;
+    let third = two_at(bytes, at + 4) as u64;
+    let fourth = two_at(bytes, at + 6) as u64;
+    ((fourth * 0x10000 + third) * 0x10000 + second) * 0x10000 + first
+}
+
 // The byte of the two digits at a place, "high digit first"; 256: there is none.
-fn pair_at(bytes: &[u8], at: usize, digits: &[u8]) -> u16
-    requires { ⌜ (at ≤ length (now bytes)) × Digits (now digits) ⌝ }
+fn pair_at(bytes: &[u8], at: usize) -> u16
+    requires { ⌜ at ≤ length (now bytes) ⌝ }
     ensures { λ r. ⌜ Next (plainOf Ascii (drop at (now (bytes .entry)))) r ⌝ }
 {
     if bytes.len() - at < 2 {
         return 256;
     }
-    let high = digits[bytes[at] as usize];
-    if 16 <= high {
-        return 256;
+    let characters = two_at(bytes, at) as u64;
+    let values = worth(characters, TWO);
+    if are_digits(characters, values, TWO) {
+        ((values * 16 + values / 256) % 256) as u16
+    } else {
+        256
     }
-    let low = digits[bytes[at + 1] as usize];
-    if 16 <= low {
-        return 256;
+}
+
+// Four bytes from a place on, each the lower half of its sixteen bits.
+fn put_four(frame: &mut [u8], place: usize, first: u64)
+    requires { ⌜ place + 4 ≤ length (now frame) ⌝ }
+    ensures { λ r. ⌜ now (frame .exit) ≡ set (set (set (set (now (frame .entry)) place (first % 256)) (place + 1) (first / 0x10000 % 256)) (place + 2) (first / 0x10000 / 0x10000 % 256)) (place + 3) (first / 0x10000 / 0x10000 / 0x10000 % 256) ⌝ }
+{
+    let second = first / 0x10000;
+    let third = second / 0x10000;
+    let fourth = third / 0x10000;
+    frame[place] = (first % 256) as u8;
+    frame[place + 1] = (second % 256) as u8;
+    frame[place + 2] = (third % 256) as u8;
+    frame[place + 3] = (fourth % 256) as u8;
+}
+
+// The plain bytes of an ASCII frame, as long as they come four at a time, laid after those that it
+// has.
+fn fours(held: usize, end: usize, frame: &mut [u8], bytes: &[u8]) -> usize
+    requires { ⌜ (end ≤ longest + 3) × Roomy held (now frame) ⌝ }
+    ensures { λ r. ⌜ (r ≤ end - held) × Lays held (now (frame .entry)) (take r (plainOf Ascii (now (bytes .entry)))) r (now (frame .exit)) ⌝ }
+{
+    let mut i = 0;
+    while held + i + 4 <= end {
+        let at = 2 * i;
+        if bytes.len() - at < 8 {
+            return i;
+        }
+        let characters = eight_at(bytes, at);
+        let values = worth(characters, EIGHT);
+        if !are_digits(characters, values, EIGHT) {
+            return i;
+        }
+        put_four(frame, held + i, values * 16 + values / 256);
+        i += 4;
     }
-    (high * 16 + low) as u16
+    i
 }
 
 // The next plain byte, after i of them; 256: there is none.
-fn plain_at(framing: Framing, bytes: &[u8], i: usize, digits: &[u8]) -> u16
-    requires { ⌜ (framing ≡ Ascii → Digits (now digits)) × (span framing i ≤ length (now bytes)) ⌝ }
+fn plain_at(framing: Framing, bytes: &[u8], i: usize) -> u16
+    requires { ⌜ span framing i ≤ length (now bytes) ⌝ }
     ensures { λ r. ⌜ Next (plainOf framing (drop (span framing i) (now (bytes .entry)))) r ⌝ }
 {
     match framing {
         Framing::Binary => standing_at(bytes, i),
-        Framing::Ascii => pair_at(bytes, 2 * i, digits),
+        Framing::Ascii => pair_at(bytes, 2 * i),
     }
 }
 
 // The plain bytes that a frame of length byte `first` takes, laid after those that it has.
-fn run(
-    framing: Framing,
-    first: u8,
-    held: usize,
-    frame: &mut [u8],
-    bytes: &[u8],
-    digits: &[u8],
-) -> usize
-    requires { ⌜ (framing ≡ Ascii → Digits (now digits)) × (lengthOk first ≡ true) × Roomy held (now frame) ⌝ }
+fn run(framing: Framing, first: u8, held: usize, frame: &mut [u8], bytes: &[u8]) -> usize
+    requires { ⌜ (lengthOk first ≡ true) × Roomy held (now frame) ⌝ }
     ensures { λ r. ⌜ Runs framing first held (now (frame .entry)) (now (bytes .entry)) r (now (frame .exit)) ⌝ }
 {
     let end = first as usize + beyond(framing);
-    let mut i = 0;
+    let mut i = match framing {
+        Framing::Binary => 0,
+        Framing::Ascii => fours(held, end, frame, bytes),
+    };
     while held + i < end {
-        let x = plain_at(framing, bytes, i, digits);
+        let x = plain_at(framing, bytes, i);
         if 255 < x {
             return i;
         }
@@ -189,25 +262,25 @@ fn run(
 
 // The length byte of a frame of which `held` bytes stand in its array, or else the first plain byte
 // that comes; 0: there is none.
-fn first_of(framing: Framing, held: usize, frame: &[u8], bytes: &[u8], digits: &[u8]) -> u8
-    requires { ⌜ (framing ≡ Ascii → Digits (now digits)) × Roomy held (now frame) ⌝ }
+fn first_of(framing: Framing, held: usize, frame: &[u8], bytes: &[u8]) -> u8
+    requires { ⌜ Roomy held (now frame) ⌝ }
     ensures { λ r. ⌜ r ≡ lengthOf held (now (frame .entry)) (plainOf framing (now (bytes .entry))) ⌝ }
 {
     if held != 0 {
         return frame[0];
     }
-    let x = plain_at(framing, bytes, 0, digits);
+    let x = plain_at(framing, bytes, 0);
     if 255 < x { 0 } else { x as u8 }
 }
 
 // The plain bytes that an open frame takes, laid in its array.
-fn grow(framing: Framing, held: usize, frame: &mut [u8], bytes: &[u8], digits: &[u8]) -> usize
-    requires { ⌜ (framing ≡ Ascii → Digits (now digits)) × Roomy held (now frame) ⌝ }
+fn grow(framing: Framing, held: usize, frame: &mut [u8], bytes: &[u8]) -> usize
+    requires { ⌜ Roomy held (now frame) ⌝ }
     ensures { λ r. ⌜ Grows framing held (now (frame .entry)) (now (bytes .entry)) r (now (frame .exit)) ⌝ }
 {
-    let length = first_of(framing, held, frame, bytes, digits);
+    let length = first_of(framing, held, frame, bytes);
     if length_ok(length) {
-        run(framing, length, held, frame, bytes, digits)
+        run(framing, length, held, frame, bytes)
     } else {
         0
     }
@@ -231,22 +304,13 @@ pub fn take_plain(framing: Framing, held: usize, frame: &mut [u8], bytes: &[u8])
     if MOST < held {
         return Taken { count: 0, used: 0 };
     }
+    let count = grow(framing, held, frame, bytes);
     match framing {
-        Framing::Binary => {
-            let count = grow(framing, held, frame, bytes, &bytes[..0]);
-            Taken { count, used: count }
-        }
-        Framing::Ascii => {
-            if bytes.len() < 2 {
-                return Taken { count: 0, used: 0 };
-            }
-            let digits = digit_table();
-            let count = grow(framing, held, frame, bytes, &digits);
-            Taken {
-                count,
-                used: 2 * count,
-            }
-        }
+        Framing::Binary => Taken { count, used: count },
+        Framing::Ascii => Taken {
+            count,
+            used: 2 * count,
+        },
     }
 }
 

@@ -10,21 +10,20 @@ use Rattle.frames.proofs.first_of.Statement.{statement}
 use Rattle.frames.proofs.first_of.Tie as tie
 
 -- the call, from before the first test
-abbrev call : tie.After-shared-slice-known3 → tie.Start
-call c = c .before .before .before
+abbrev call : tie.After-shared-slice-known2 → tie.Start
+call c = c .before .before
 
 shared-slice-read-result : tie.Need-shared-slice-read-result
-shared-slice-read-result c = omega (arith, call (c .before .before) .pre .1 .size)
+shared-slice-read-result c = omega (arith, call (c .before .before) .pre .size)
 
 returns : tie.Need-returns
 returns c =
     let s = call (c .before .before) in
-    first-held (s .args .held) (s .args .frame .now) _ (c .before .if1 .taken) (omega (arith, s .pre .1 .size))
+    first-held (s .args .held) (s .args .frame .now) _ (c .before .if1 .taken) (omega (arith, s .pre .size))
 
 plain-at-requires : tie.Need-plain-at-requires
 plain-at-requires c κs =
-    let s = call (c .before) in
-    (s .pre .0, omega (arith, span-none (s .args .framing)))
+    omega (arith, span-none (call (c .before) .args .framing))
 
 cast-result : tie.Need-cast-result
 cast-result c = search needs

@@ -7,7 +7,7 @@ use Rattle.frames.proofs.grow.Tie as tie
 
 -- the call, from the length byte
 abbrev call : tie.After-first-of → tie.Start
-call c = c .before .before .before .before .before
+call c = c .before .before .before .before
 
 first-of-requires : tie.Need-first-of-requires
 first-of-requires c κs = search needs
@@ -19,7 +19,7 @@ run-requires : tie.Need-run-requires
 run-requires c κs =
     let known = c .before in
     let s = call (known .before .before) in
-    (s .pre .0, sym (known .before .length-ok .ensures) ∙ known .if1 .taken, s .pre .1)
+    (sym (known .before .length-ok .ensures) ∙ known .if1 .taken, s .pre)
 
 same-length : tie.Need-same-length
 same-length c = search needs
@@ -30,7 +30,7 @@ returns c =
     let first = known .before .before in
     let s = call first in
     let a = s .args in
-    run-grows (a .framing) (a .held) (a .frame .now) (a .bytes .now) (first .first-of .result) _ _ (s .pre .1)
+    run-grows (a .framing) (a .held) (a .frame .now) (a .bytes .now) (first .first-of .result) _ _ (s .pre)
     (first .first-of .ensures) (sym (known .before .length-ok .ensures) ∙ known .if1 .taken)
     (c .before .before .run .ensures)
 

@@ -1,105 +1,112 @@
--- `frames::pair_at` meets its contract, digit by digit. Assumes nothing.
-use Prim.Native.Nat.{_+_, _≤_, _<_}
+-- `frames::pair_at` meets its contract: the two characters are looked at together. Assumes nothing.
+use Prim.Native.Nat.{ℕ, zero, suc, _+_, _≤_, _<_}
 use native.Mathlib.Omega.{arith}
-use mathlib.Core.Path.{_≡_, sym, ap, _∙_}
-use lib.ListN.{length, getD}
+use mathlib.Core.Path.{_≡_, refl, sym, _∙_}
+use mathlib.Core.Bool.{Bool, true, false}
+use mathlib.Core.List.{List, [], _∷_}
+use lib.Dec.{ltb}
+use lib.ListN.{length, getD, drop}
 use borrow.Author.Needs.{needs}
-use Rattle.frames.specs.Plain.{digitIn}
+use borrow.Author.Tests.{ltb-true, ltb-false}
+use Rattle.standard.specs.declared.Framing.the-variants.{Ascii}
+use Rattle.standard.proofs.Framings.{bytes-none, bytes-cons}
+use Rattle.frames.specs.Plain.{digitIn, plainOf}
+use Rattle.frames.specs.Parts.{Next}
+use Rattle.frames.proofs.Lanes.{lanes, Looked, AllDigits, first-pair}
+use Rattle.frames.proofs.Lanes.{looked-few, looked-digits, looked-worth, looked-other}
 use Rattle.frames.proofs.Plainly.{pair-end, pair-high, pair-low, pair-both}
 use Rattle.frames.proofs.pair_at.Statement.{statement}
 use Rattle.frames.proofs.pair_at.Tie as tie
 
--- the call, from the digits that were read
-abbrev from-high : tie.After-shared-slice-known2 → tie.Start
-from-high c = c .before .before .before
+-- the call, from what the characters are worth, and both of them
+abbrev call : tie.After-worth → tie.Start
+call c = c .before .before .before .before
 
-abbrev past-high : tie.After-shared-slice-known4 → tie.After-shared-slice-known2
-past-high c = c .before .before .before
+abbrev two : tie.After-worth → List ℕ
+two c = let a = call c .args in getD (a .bytes .now) (a .at) 0 ∷ getD (a .bytes .now) (a .at + 1) 0 ∷ []
 
-abbrev from-low : tie.After-shared-slice-known4 → tie.Start
-from-low c = from-high (past-high c)
+both-there : (c : tie.After-worth) → call c .args .at + 2 ≤ length (call c .args .bytes .now)
+both-there c = omega (arith, c .before .before .if1 .left, call c .pre)
 
--- past the first test both characters are there
-both-there : (c : tie.Else1) → c .before .args .at + 2 ≤ length (c .before .args .bytes .now)
-both-there c = omega (arith, c .if1 .left, c .before .pre .0)
-
--- the entries read are the digits' values
-high : (c : tie.After-shared-slice-known2)
-    → let a = from-high c .args in
-    getD (a .digits .now) (getD (a .bytes .now) (a .at) 0) 0 ≡ digitIn (getD (a .bytes .now) (a .at) 0)
-high c =
-    let s = from-high c in
-    s .pre .1 .entry (getD (s .args .bytes .now) (s .args .at) 0)
-    (omega (arith, c .before .shared-slice-known .given (s .args .at)))
-
-low : (c : tie.After-shared-slice-known4)
-    → let a = from-low c .args in
-    getD (a .digits .now) (getD (a .bytes .now) (a .at + 1) 0) 0 ≡ digitIn (getD (a .bytes .now) (a .at + 1) 0)
-low c =
-    let s = from-low c in
-    s .pre .1 .entry (getD (s .args .bytes .now) (s .args .at + 1) 0)
-    (omega (arith, c .before .shared-slice-known3 .given (s .args .at + 1)))
+looked : (c : tie.After-worth) → Looked (two c) (c .before .two-at .result) 257 (c .worth .result)
+unfolding lanes
+looked c =
+    let a = call c .args in
+    let known = c .before .before .before .shared-slice-known .given in
+    record {
+      bytes = bytes-cons (getD (a .bytes .now) (a .at) 0) (getD (a .bytes .now) (a .at + 1) 0 ∷ [])
+          (omega (arith, known (a .at)))
+          (bytes-cons (getD (a .bytes .now) (a .at + 1) 0) [] (omega (arith, known (a .at + 1))) bytes-none);
+      number = omega (arith, c .before .two-at .ensures);
+      one = refl;
+      worth = c .worth .ensures;
+    }
 
 sub-if1 : tie.Need-sub-if1
 sub-if1 c = search needs
 
 returns : tie.Need-returns
-returns c = let a = c .before .args in pair-end (a .bytes .now) (a .at) (c .if1 .taken)
+returns c = let a = c .before .before .args in pair-end (a .bytes .now) (a .at) (c .if1 .taken)
 
-shared-slice-read-high : tie.Need-shared-slice-read-high
-shared-slice-read-high c = search needs
+two-at-requires : tie.Need-two-at-requires
+two-at-requires c κs = search needs
 
-cast-high : tie.Need-cast-high
-cast-high c = omega (arith, c .shared-slice-known .given (c .before .before .args .at))
+cast-characters : tie.Need-cast-characters
+cast-characters c = search needs
 
-shared-slice-read-high-2 : tie.Need-shared-slice-read-high-2
-shared-slice-read-high-2 c =
-    let s = from-high c in omega (arith, c .before .shared-slice-known .given (s .args .at), s .pre .1 .sized)
+worth-requires : tie.Need-worth-requires
+worth-requires c κs = search needs
 
-returns-2 : tie.Need-returns-2
-returns-2 c =
-    let read = c .before in
-    let a = from-high read .args in
-    pair-high (a .bytes .now) (a .at) (both-there (read .before .before)) (omega (arith, high read, c .if2 .taken))
-
-add-low : tie.Need-add-low
-add-low c = search needs
-
-shared-slice-read-low : tie.Need-shared-slice-read-low
-shared-slice-read-low c = search needs
-
-cast-low : tie.Need-cast-low
-cast-low c = omega (arith, c .shared-slice-known3 .given (from-high (c .before .before) .args .at + 1))
-
-shared-slice-read-low-2 : tie.Need-shared-slice-read-low-2
-shared-slice-read-low-2 c =
-    let s = from-low c in omega (arith, c .before .shared-slice-known3 .given (s .args .at + 1), s .pre .1 .sized)
-
-returns-3 : tie.Need-returns-3
-returns-3 c =
-    let read = c .before in
-    let a = from-low read .args in
-    pair-low (a .bytes .now) (a .at) (both-there (past-high read .before .before))
-    (omega (arith, low read, c .if3 .taken))
+are-digits-requires : tie.Need-are-digits-requires
+are-digits-requires c κs = (omega arith, looked-few (looked c))
 
 mul-result : tie.Need-mul-result
-mul-result c = search needs
+mul-result c = omega (arith, looked-few (looked (c .before .before)))
 
 add-result : tie.Need-add-result
-add-result c = search needs
+add-result c = omega (arith, looked-few (looked (c .before .before)))
 
 cast-result : tie.Need-cast-result
 cast-result c = search needs
 
-returns-4 : tie.Need-returns-4
-returns-4 c =
-    let read = c .before in
-    let a = from-low read .args in
-    let h = high (past-high read) in
-    let l = low read in
-    rw (h, l)
-    (pair-both (a .bytes .now) (a .at) (both-there (past-high read .before .before))
-    (omega (arith, h, read .before .before .if2 .left)) (omega (arith, l, c .if3 .left)))
+returns-2 : tie.Need-returns-2
+returns-2 c =
+    let l = looked (c .before .before) in
+    let a = call (c .before .before) .args in
+    let passed = sym (c .before .are-digits .ensures) ∙ c .if2 .taken in
+    let high = looked-digits l passed 0 (omega arith) in
+    let low = looked-digits l passed 1 (omega arith) in
+    rw (
+      looked-worth l passed,
+      first-pair (getD (a .bytes .now) (a .at) 0) (getD (a .bytes .now) (a .at + 1) 0) [] high low,
+    )
+    (pair-both (a .bytes .now) (a .at) (both-there (c .before .before)) high low)
+
+-- one of two that are not both digits is none
+pair-none : (bytes : List ℕ) (at : ℕ) → at + 2 ≤ length bytes
+    → (AllDigits (getD bytes at 0 ∷ getD bytes (at + 1) 0 ∷ []) → ⊥) → Next (plainOf Ascii (drop at bytes)) 256
+pair-none bytes at there not = by-high (ltb (digitIn (getD bytes at 0)) 16) refl
+  where
+    both : digitIn (getD bytes at 0) < 16 → digitIn (getD bytes (at + 1) 0) < 16
+        → AllDigits (getD bytes at 0 ∷ getD bytes (at + 1) 0 ∷ [])
+    both h l zero k = h
+    both h l (suc zero) k = l
+    both h l (suc (suc i)) k = absurd (omega arith)
+
+    by-low : (t : Bool) → ltb (digitIn (getD bytes (at + 1) 0)) 16 ≡ t → digitIn (getD bytes at 0) < 16
+        → Next (plainOf Ascii (drop at bytes)) 256
+    by-low true e h = absurd (not (both h (ltb-true (digitIn (getD bytes (at + 1) 0)) 16 e)))
+    by-low false e h = pair-low bytes at there (ltb-false (digitIn (getD bytes (at + 1) 0)) 16 e)
+
+    by-high : (t : Bool) → ltb (digitIn (getD bytes at 0)) 16 ≡ t → Next (plainOf Ascii (drop at bytes)) 256
+    by-high true e = by-low (ltb (digitIn (getD bytes (at + 1) 0)) 16) refl (ltb-true (digitIn (getD bytes at 0)) 16 e)
+    by-high false e = pair-high bytes at there (ltb-false (digitIn (getD bytes at 0)) 16 e)
+
+returns-3 : tie.Need-returns-3
+returns-3 c =
+    let a = call (c .before .before) .args in
+    pair-none (a .bytes .now) (a .at) (both-there (c .before .before))
+    (looked-other (looked (c .before .before)) (sym (c .before .are-digits .ensures) ∙ c .if2 .left))
 
 pub pair-at-spec : {M : Type 1} → statement M
 pair-at-spec =
@@ -107,16 +114,12 @@ pair-at-spec =
     (tie.spec
     sub-if1
     returns
-    shared-slice-read-high
-    cast-high
-    shared-slice-read-high-2
-    returns-2
-    add-low
-    shared-slice-read-low
-    cast-low
-    shared-slice-read-low-2
-    returns-3
+    two-at-requires
+    cast-characters
+    worth-requires
+    are-digits-requires
     mul-result
     add-result
     cast-result
-    returns-4)
+    returns-2
+    returns-3)

@@ -10,10 +10,10 @@ use Rattle.frames.proofs.plain_at.Tie as tie
 
 -- the call, from the arm for text, and what it says there
 abbrev from-text : tie.After-enum-told2 → tie.Start
-from-text c = c .before .before .before .before
+from-text c = c .before .before .before
 
 in-line : (s : tie.Start) → s .args .framing ≡ Ascii → 2 * s .args .i ≤ length (s .args .bytes .now)
-in-line s e = rw e at (s .pre .1)
+in-line s e = rw e at (s .pre)
 
 enum-told : tie.Need-enum-told
 enum-told c = search needs
@@ -29,7 +29,7 @@ mul-pair-at c = let s = from-text c in omega (arith, in-line s (c .enum-told2 .g
 
 pair-at-requires : tie.Need-pair-at-requires
 pair-at-requires c κs =
-    let s = from-text c in let told = c .enum-told2 .given .1 in (in-line s told, s .pre .0 told)
+    in-line (from-text c) (c .enum-told2 .given .1)
 
 returns : tie.Need-returns
 returns c = rw (c .before .enum-told .given .1) (c .standing-at .ensures)

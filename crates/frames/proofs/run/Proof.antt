@@ -1,59 +1,82 @@
 -- `frames::run` meets its contract. The loop's invariant: so many plain bytes were taken, and they are laid after those
 -- that were held. Assumes nothing.
-use Prim.Native.Nat.{_+_, _-_, _≤_, _<_}
+use Prim.Native.Nat.{ℕ, _+_, _-_, _≤_, _<_}
 use native.Mathlib.Omega.{arith}
-use mathlib.Core.Path.{_≡_, sym, ap, _∙_}
-use mathlib.Core.Logic.{inl, inr}
-use lib.ListN.{length, set, length-set}
-use lib.Seq.{paste, paste-zero, length-paste}
+use mathlib.Core.Path.{_≡_, refl, sym, ap, _∙_}
+use mathlib.Core.Logic.{inl, inr, ⊎-elim}
+use mathlib.Core.List.{List}
+use lib.ListN.{length}
+use lib.Seq.{length-paste}
 use borrow.Author.Needs.{needs}
 use Rattle.standard.specs.Messages.{longest}
 use Rattle.standard.proofs.Messages.{length-ok}
-use Rattle.frames.specs.Plain.{beyond, plainOf, span}
-use Rattle.frames.proofs.Plainly.{Went, beyond-few, went-none, went-all, went-one, stored, laid-taken}
+use Rattle.frames.specs.Plain.{beyond, plainOf}
+use Rattle.frames.proofs.Plainly.{Laid, beyond-few, went-all, laid-first, laid-one, laid-lays, taken-laid}
 use Rattle.frames.proofs.run.Statement.{statement}
 use Rattle.frames.proofs.run.Tie as tie
 
 abbrev Inv-loop : tie.InvT-loop
-Inv-loop framing first held frame₀ bytes digits end i₀ frame i =
-    (end ≡ first + beyond framing) × (i ≤ end - held) × Went framing bytes i
-    × (frame ≡ paste frame₀ held (plainOf framing bytes) i)
+Inv-loop framing first held frame₀ bytes end i₀ frame i =
+    (i ≤ end - held) × ((array : List ℕ) → longest + 3 ≤ length array → Laid framing bytes array held i₀ frame₀
+    → Laid framing bytes array held i frame)
 
 abbrev μ-loop : tie.MeasureT-loop
-μ-loop framing first held frame₀ bytes digits end i₀ frame i = end - held - i
+μ-loop framing first held frame₀ bytes end i₀ frame i = end - held - i
 
 -- the frame ends in its array
 few : (s : tie.Start Inv-loop μ-loop) → s .args .first + beyond (s .args .framing) ≤ longest + 3
-few s = omega (arith, length-ok (s .args .first) (s .pre .1) .few, beyond-few (s .args .framing))
+few s = omega (arith, length-ok (s .args .first) (s .pre .0) .few, beyond-few (s .args .framing))
 
 -- the call, from what lies beyond the length and from a turn
 abbrev from-beyond : tie.After-beyond Inv-loop μ-loop → tie.Start Inv-loop μ-loop
-from-beyond c = c .before .before .before .before
+from-beyond c = c .before .before .before
 
 abbrev from-turn : tie.At-loop Inv-loop μ-loop → tie.Start Inv-loop μ-loop
-from-turn c = from-beyond (c .before)
+from-turn c = from-beyond (c .before .before)
 
 -- the turn in which a byte was kept
-abbrev turn : tie.Else1 Inv-loop μ-loop → tie.At-loop Inv-loop μ-loop
-turn c = c .before .before .before
+abbrev turn : tie.After-row-known Inv-loop μ-loop → tie.At-loop Inv-loop μ-loop
+turn c = c .before .before .before .before
 
 -- and the one in which none was
 abbrev last-turn : tie.Then1 Inv-loop μ-loop → tie.At-loop Inv-loop μ-loop
 last-turn c = c .before .before .before
 
+-- what was taken before the loop
+begun : (c : tie.At-match-came Inv-loop μ-loop)
+    → let a = from-beyond (c .before) .args in
+    (c .match .i ≤ a .first + c .before .beyond .result - a .held)
+    × Laid (a .framing) (a .bytes .now) (a .frame .now) (a .held) (c .match .i) (c .match .frame)
+begun c =
+    let a = from-beyond (c .before) .args in
+    ⊎-elim
+    (λ w. (
+      omega (arith, w .3),
+      laid-first (a .framing) (a .bytes .now) (a .frame .now) (a .held) (c .match .i) (c .match .frame)
+          (w .2) (w .3),
+    ))
+    (λ w. (omega (arith, w .7, w .3 .ensures .0), taken-laid (w .1 .given .1) (w .6) (w .7) (w .3 .ensures .1)))
+    (c .match .came)
+
+-- and in it
+laid : (c : tie.At-loop Inv-loop μ-loop)
+    → let a = from-turn c .args in
+    Laid (a .framing) (a .bytes .now) (a .frame .now) (a .held) (c .loop .i) (c .loop .frame)
+laid c = let s = from-turn c in c .loop .inv .1 (s .args .frame .now) (s .pre .1 .size) (begun (c .before) .1)
+
 -- where the next byte is stored
 room : (c : tie.At-loop Inv-loop μ-loop) → from-turn c .args .held + c .loop .i ≤ longest + 3
 room c =
     let s = from-turn c in
-    omega (arith, few s, s .pre .2 .held, c .loop .inv .0, c .loop .inv .1)
+    omega (arith, few s, s .pre .1 .held, c .before .before .beyond .ensures, c .loop .inv .0)
 
 -- the array's size stays
 sized : (c : tie.At-loop Inv-loop μ-loop) → length (c .loop .frame) ≡ length (from-turn c .args .frame .now)
 sized c =
     let s = from-turn c in
-    ap length (c .loop .inv .3)
+    ap length (laid c .is)
     ∙ length-paste (s .args .frame .now) (s .args .held) (plainOf (s .args .framing) (s .args .bytes .now)) (c .loop .i)
-    (omega (arith, room c, s .pre .2 .size)) (c .loop .inv .2 .some)
+    (omega (arith, room c, s .pre .1 .size)) (laid c .went .some)
 
 beyond-requires : tie.Need-beyond-requires Inv-loop μ-loop
 beyond-requires c κs = tt
@@ -61,35 +84,36 @@ beyond-requires c κs = tt
 add-end : tie.Need-add-end Inv-loop μ-loop
 add-end c = omega (arith, few (from-beyond c), c .beyond .ensures)
 
+enum-told : tie.Need-enum-told Inv-loop μ-loop
+enum-told c = search needs
+
+enum-told-2 : tie.Need-enum-told-2 Inv-loop μ-loop
+enum-told-2 c = search needs
+
+fours-requires : tie.Need-fours-requires Inv-loop μ-loop
+fours-requires c κs =
+    let b = c .before .before .before in
+    (omega (arith, few (from-beyond b), b .beyond .ensures), from-beyond b .pre .1)
+
 loop-holds : tie.Need-loop-holds Inv-loop μ-loop
-loop-holds c =
-    let a = from-beyond c .args in (
-      ap (λ n. a .first + n) (c .beyond .ensures),
-      omega arith,
-      went-none (a .framing) (a .bytes .now),
-      paste-zero
-          (a .frame .now) (a .held) (plainOf (a .framing) (a .bytes .now)),
-    )
+loop-holds c = (begun c .0, λ array h l. l)
 
 add-loop : tie.Need-add-loop Inv-loop μ-loop
 add-loop c = omega (arith, room c)
 
 plain-at-requires : tie.Need-plain-at-requires Inv-loop μ-loop
-plain-at-requires c κs =
-    (from-turn (c .before) .pre .0, c .before .loop .inv .2 .line)
+plain-at-requires c κs = laid (c .before) .went .line
 
 same-length : tie.Need-same-length Inv-loop μ-loop
 same-length c = sized (last-turn c)
 
 returns : tie.Need-returns Inv-loop μ-loop
 returns c =
-    let l = last-turn c .loop in
-    let a = from-turn (last-turn c) .args in
-    rw (l .inv .3)
-    (laid-taken (a .frame .now) (plainOf (a .framing) (a .bytes .now)) (a .held) (l .i)
-    (a .first + beyond (a .framing) - a .held)
-    (l .inv .2 .some) (omega (arith, l .inv .0, l .inv .1))
-    (inl (went-all (l .inv .2) (c .before .plain-at .ensures) (c .if1 .taken))))
+    let t = last-turn c in
+    let a = from-turn t .args in
+    laid-lays (a .first + beyond (a .framing) - a .held) (laid t)
+    (omega (arith, t .before .before .beyond .ensures, t .loop .inv .0))
+    (inl (went-all (laid t .went) (c .before .plain-at .ensures) (c .if1 .taken)))
 
 cast-frame : tie.Need-cast-frame Inv-loop μ-loop
 cast-frame c = search needs
@@ -101,25 +125,24 @@ slice-write-frame : tie.Need-slice-write-frame Inv-loop μ-loop
 slice-write-frame c =
     let t = turn c in
     let s = from-turn t in
-    omega (arith, room t, sized t, s .pre .2 .size, few s, t .loop .inv .0, c .before .before .loop-test .taken)
+    omega (arith, sized t, s .pre .1 .size, few s, t .before .before .beyond .ensures, c .before .before .before .loop-test .taken)
 
 add-i : tie.Need-add-i Inv-loop μ-loop
 add-i c = omega (arith, room (turn c))
 
 loop-less : tie.Need-loop-less Inv-loop μ-loop
-loop-less c = omega (arith, c .before .before .loop-test .taken)
+loop-less c = omega (arith, c .before .before .before .loop-test .taken)
 
 loop-again : tie.Need-loop-again Inv-loop μ-loop
 loop-again c =
-    let l = turn c .loop in
-    let s = from-turn (turn c) in
-    let fits : s .args .held + l .i < length (s .args .frame .now) = omega
-    (arith, few s, l .inv .0, c .before .before .loop-test .taken, s .pre .2 .size) in (
-      l .inv .0,
-      omega (arith, c .before .before .loop-test .taken),
-      went-one (l .inv .2) (c .before .plain-at .ensures) (c .if1 .left),
-      rw (l .inv .3)
-          (stored (l .inv .2) (c .before .plain-at .ensures) (c .if1 .left) (s .args .frame .now) (s .args .held) fits),
+    let t = turn c in
+    let s = from-turn t in
+    let kept = c .before in
+    let test = kept .before .before .loop-test .taken in (
+      omega (arith, test),
+      λ array h l. laid-one (kept .before .plain-at .result) (s .args .held + t .loop .i) (t .loop .inv .1 array h l)
+          (kept .before .plain-at .ensures) (kept .if1 .left) refl
+          (omega (arith, few s, t .before .before .beyond .ensures, test, h)),
     )
 
 same-length-2 : tie.Need-same-length-2 Inv-loop μ-loop
@@ -127,12 +150,11 @@ same-length-2 c = sized (c .before)
 
 returns-2 : tie.Need-returns-2 Inv-loop μ-loop
 returns-2 c =
-    let l = c .before .loop in
-    let a = from-turn (c .before) .args in
-    rw (l .inv .3)
-    (laid-taken (a .frame .now) (plainOf (a .framing) (a .bytes .now)) (a .held) (l .i)
-    (a .first + beyond (a .framing) - a .held)
-    (l .inv .2 .some) (omega (arith, l .inv .0, l .inv .1)) (inr (omega (arith, l .inv .0, c .loop-test .left))))
+    let t = c .before in
+    let a = from-turn t .args in
+    laid-lays (a .first + beyond (a .framing) - a .held) (laid t)
+    (omega (arith, t .before .before .beyond .ensures, t .loop .inv .0))
+    (inr (omega (arith, t .before .before .beyond .ensures, c .loop-test .left)))
 
 pub run-spec : {M : Type 1} → statement M
 run-spec =
@@ -142,6 +164,9 @@ run-spec =
     μ-loop
     beyond-requires
     add-end
+    enum-told
+    enum-told-2
+    fours-requires
     loop-holds
     add-loop
     plain-at-requires
