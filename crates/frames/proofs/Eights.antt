@@ -90,5 +90,5 @@ module _ (bytes : List ℕ) (at : ℕ) where
       let three = pair-laid bytes (at + 4) fourth n₃ is₃ h₃ l₃ (held + i + 2) two (omega arith) (omega arith)
       (omega arith) (omega arith) in
       laid-count (omega arith)
-      (pair-laid bytes (at + 6) [] (n₃ / 0x10000) is₄ h₄ l₄ (held + i + 3) three (omega arith) (omega arith) (omega arith)
-      (omega arith))
+      (pair-laid bytes (at + 6) [] (n₃ / 0x10000) is₄ h₄ l₄ (held + i + 3) three (omega arith) (omega arith)
+      (omega arith) (omega arith))

@@ -4,7 +4,7 @@ ghost use mathlib.Core.Path.{_≡_};
 ghost use Prim.Native.Nat.{ℕ, _+_, _-_, _*_, _/_, _%_, _≤_};
 ghost use mathlib.Core.Bool.{true};
 ghost use mathlib.Core.List.{[]};
-ghost use lib.Bits.{bitAnd, bitOr, bitXor};
+ghost use lib.Bits.{bitAnd};
 ghost use lib.Dec.{eqb};
 ghost use lib.ListN.{length, getD, take, drop, set};
 ghost use Rattle.standard.specs.declared.Framing.the-variants.{Binary, Ascii};
@@ -110,19 +110,18 @@ pub fn digit(c: u8) -> u8
 // alone has bit 6.
 fn worth(characters: u64, ones: u64) -> u64
     requires { ⌜ ones ≤ 0x0101010101010101 ⌝ }
-    ensures { λ r. ⌜ r ≡ bitAnd characters (ones * 15) + bitAnd characters (ones * 64) / 64 * 9 ⌝ }
+    ensures { λ r. ⌜ r ≡ bitAnd (bitAnd characters (ones * 15) + bitAnd characters (ones * 64) / 64 * 9) (ones * 15) ⌝ }
 {
-    (characters & (ones * 15)) + (characters & (ones * 64)) / 64 * 9
+    ((characters & (ones * 15)) + (characters & (ones * 64)) / 64 * 9) & (ones * 15)
 }
 
-// Whether all are digits: each is worth up to 15, and its high four bits are 3 up to 9 and 4 from 10
-// on. All of that is one value and one test.
+// Whether all are digits: each has 30h above its low four bits where it is worth up to 9, and 40h
+// where it is worth 10 to 15.
 fn are_digits(characters: u64, values: u64, ones: u64) -> bool
-    requires { ⌜ (ones ≤ 0x0101010101010101) × (values ≤ ones * 24) ⌝ }
-    ensures { λ r. ⌜ r ≡ eqb (bitOr (bitXor (bitAnd characters (ones * 15) + ones * 48 + bitAnd (values + ones * 6) (ones * 16)) characters) (bitAnd values (ones * 16))) 0 ⌝ }
+    requires { ⌜ (ones ≤ 0x0101010101010101) × (values ≤ ones * 15) ⌝ }
+    ensures { λ r. ⌜ r ≡ eqb (bitAnd characters (ones * 15) + ones * 48 + bitAnd (values + ones * 6) (ones * 16)) characters ⌝ }
 {
-    let sent = (characters & (ones * 15)) + ones * 48 + ((values + ones * 6) & (ones * 16));
-    ((sent ^ characters) | (values & (ones * 16))) == 0
+    (characters & (ones * 15)) + ones * 48 + ((values + ones * 6) & (ones * 16)) == characters
 }
 
 // Whether a byte of a binary frame stands for itself: neither 7Dh nor 7Eh.
@@ -184,11 +183,10 @@ fn pair_at(bytes: &[u8], at: usize) -> u16
     }
     let characters = two_at(bytes, at) as u64;
     let values = worth(characters, TWO);
-    if are_digits(characters, values, TWO) {
-        ((values * 16 + values / 256) % 256) as u16
-    } else {
-        256
+    if !are_digits(characters, values, TWO) {
+        return 256;
     }
+    (values % 256 * 16 + values / 256) as u16
 }
 
 // Four bytes from a place on, each the lower half of its sixteen bits.

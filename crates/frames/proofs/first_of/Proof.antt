@@ -1,10 +1,6 @@
 -- `frames::first_of` meets its contract. Assumes nothing.
-use Prim.Native.Nat.{_+_, _≤_, _<_}
 use native.Mathlib.Omega.{arith}
-use mathlib.Core.Path.{_≡_, sym, ap, _∙_}
-use lib.ListN.{length}
 use borrow.Author.Needs.{needs}
-use Rattle.frames.specs.Plain.{span}
 use Rattle.frames.proofs.Plainly.{span-none, first-held, first-comes, none-comes}
 use Rattle.frames.proofs.first_of.Statement.{statement}
 use Rattle.frames.proofs.first_of.Tie as tie

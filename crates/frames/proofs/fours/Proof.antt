@@ -8,13 +8,12 @@ use mathlib.Core.Bool.{true}
 use lib.Dec.{eqb}
 use lib.ListN.{length, take}
 use lib.Seq.{paste-zero, length-paste}
-use borrow.Author.Needs.{needs}
 use borrow.Author.Tests.{not-false}
 use Rattle.standard.specs.declared.Framing.the-variants.{Ascii}
 use Rattle.standard.specs.Messages.{longest}
 use Rattle.frames.specs.Plain.{plainOf}
 use Rattle.frames.specs.Parts.{Lays}
-use Rattle.frames.proofs.Lanes.{lanes, Looked, looked-few, looked-digits, looked-worth, looked-small, pairing, testOf}
+use Rattle.frames.proofs.Lanes.{lanes, Looked, looked-few, looked-digits, looked-worth, pairing, sentOf}
 use Rattle.frames.proofs.Plainly.{Laid, went-none, laid-lays}
 use Rattle.frames.proofs.Eights.{eight, eight-bytes, eight-laid}
 use Rattle.frames.proofs.fours.Statement.{statement}
@@ -64,7 +63,8 @@ unfolding lanes
 looked c =
     let s = call (turn c) in
     record {
-      bytes = eight-bytes (s .args .bytes .now) (2 * turn c .loop .i) (λ k. omega (arith, turn c .before .shared-slice-known .given k));
+      bytes = eight-bytes (s .args .bytes .now) (2 * turn c .loop .i)
+          (λ k. omega (arith, turn c .before .shared-slice-known .given k));
       number = omega (arith, c .before .eight-at .ensures);
       one = refl;
       worth = c .worth .ensures;
@@ -73,7 +73,8 @@ looked c =
 -- past the test all eight are digits
 passed : (c : tie.Else2 Inv-loop μ-loop)
     → let w = c .before .before in
-    eqb (testOf (w .before .eight-at .result) 0x0101010101010101 (w .worth .result)) 0 ≡ true
+    let characters = w .before .eight-at .result in
+    eqb (sentOf characters 0x0101010101010101 (w .worth .result)) characters ≡ true
 passed c = sym (c .before .are-digits .ensures) ∙ not-false _ (c .if2 .left)
 
 loop-holds : tie.Need-loop-holds Inv-loop μ-loop
@@ -123,15 +124,16 @@ add-put-four : tie.Need-add-put-four Inv-loop μ-loop
 add-put-four c = omega (arith, room (turn (c .before .before .before)))
 
 mul-put-four : tie.Need-mul-put-four Inv-loop μ-loop
-mul-put-four c = omega (arith, looked-small (looked (c .before .before .before)) (passed (c .before)))
+mul-put-four c = omega (arith, looked-few (looked (c .before .before .before)))
 
 add-put-four-2 : tie.Need-add-put-four-2 Inv-loop μ-loop
-add-put-four-2 c = omega (arith, looked-small (looked (c .before .before .before)) (passed (c .before)))
+add-put-four-2 c = omega (arith, looked-few (looked (c .before .before .before)))
 
 put-four-requires : tie.Need-put-four-requires Inv-loop μ-loop
 put-four-requires c κs =
-    let t = turn (c .before .before .before) in
-    omega (arith, sized t, call t .pre .0, call t .pre .1 .size, c .before .before .before .before .before .before .loop-test .taken)
+    let w = c .before .before .before in
+    let s = call (turn w) in
+    omega (arith, sized (turn w), s .pre .0, s .pre .1 .size, w .before .before .before .loop-test .taken)
 
 add-i : tie.Need-add-i Inv-loop μ-loop
 add-i c = omega (arith, room (turn (c .before .before .before .before .before .before)))

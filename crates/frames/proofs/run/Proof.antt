@@ -1,8 +1,8 @@
 -- `frames::run` meets its contract. The loop's invariant: so many plain bytes were taken, and they are laid after those
 -- that were held. Assumes nothing.
-use Prim.Native.Nat.{ℕ, _+_, _-_, _≤_, _<_}
+use Prim.Native.Nat.{ℕ, _+_, _-_, _≤_}
 use native.Mathlib.Omega.{arith}
-use mathlib.Core.Path.{_≡_, refl, sym, ap, _∙_}
+use mathlib.Core.Path.{_≡_, refl, ap, _∙_}
 use mathlib.Core.Logic.{inl, inr, ⊎-elim}
 use mathlib.Core.List.{List}
 use lib.ListN.{length}
@@ -125,7 +125,8 @@ slice-write-frame : tie.Need-slice-write-frame Inv-loop μ-loop
 slice-write-frame c =
     let t = turn c in
     let s = from-turn t in
-    omega (arith, sized t, s .pre .1 .size, few s, t .before .before .beyond .ensures, c .before .before .before .loop-test .taken)
+    let test = c .before .before .before .loop-test .taken in
+    omega (arith, sized t, s .pre .1 .size, few s, t .before .before .beyond .ensures, test)
 
 add-i : tie.Need-add-i Inv-loop μ-loop
 add-i c = omega (arith, room (turn c))

@@ -20,8 +20,12 @@ add-result c =
     let a = c .args in
     omega (arith, c .pre, and-le-r (a .characters) (a .ones * 15), and-le-r (a .characters) (a .ones * 64))
 
+mul-result-4 : tie.Need-mul-result-4
+mul-result-4 c = search needs
+
 returns : tie.Need-returns
 returns c = search needs
 
 pub worth-spec : {M : Type 1} → statement M
-worth-spec = tie.close (tie.spec mul-result mul-result-2 mul-result-3 add-result returns)
+worth-spec =
+    tie.close (tie.spec mul-result mul-result-2 mul-result-3 add-result mul-result-4 returns)
