@@ -18,7 +18,7 @@ static const uint8_t lengths[64] = {
     [0x3A] = 6,  [0x3B] = 7,  [0x3C] = 6,  [0x3D] = 4,  [0x3E] = 3, [0x3F] = 2,
 };
 
-/* "Digits are looked up in a table of 256 entries": their value and 16, so that 0 is no digit. */
+/* Digits: their value and 16, so that 0 is no digit. */
 static const uint8_t digits[256] = {
     ['0'] = 16, ['1'] = 17, ['2'] = 18, ['3'] = 19, ['4'] = 20, ['5'] = 21, ['6'] = 22, ['7'] = 23,
     ['8'] = 24, ['9'] = 25, ['A'] = 26, ['B'] = 27, ['C'] = 28, ['D'] = 29, ['E'] = 30, ['F'] = 31,

@@ -19,7 +19,7 @@ pub struct Trial {
     pub make: fn(&mut Chance, &mut Calls, u64),
 }
 
-pub const TRIALS: [Trial; 26] = [
+pub const TRIALS: [Trial; 27] = [
     Trial { name: "reply: all 65,536 pairs", share: 0, make: all_replies },
     Trial { name: "every type byte at every length to 20", share: 0, make: all_types_and_lengths },
     Trial { name: "every value of every byte of every message", share: 0, make: all_values },
@@ -41,6 +41,7 @@ pub const TRIALS: [Trial; 26] = [
     },
     Trial { name: "commands: every message told to every front", share: 0, make: lines::all_fronts },
     Trial { name: "commands: slots with one thing wrong", share: 0, make: lines::all_wrongs },
+    Trial { name: "ASCII: every byte at every place of a frame", share: 0, make: all_characters },
     Trial { name: "streams cut at random, read and step", share: 34, make: cut_streams },
     Trial { name: "streams cut at random, hear", share: 17, make: heard_streams },
     Trial { name: "readers of any kind", share: 14, make: any_readers },
@@ -139,6 +140,23 @@ fn good_frames(chance: &mut Chance, calls: &mut Calls, _: u64) {
             }
             show_table(calls);
             calls.call(Call::View { table: None });
+        }
+    }
+}
+
+/// In ASCII frames of the shortest and longest messages and of two between, every byte at every place behind the
+/// start; read at once, and cut behind that place.
+fn all_characters(chance: &mut Chance, calls: &mut Calls, _: u64) {
+    for number in [0x1D, 0x04, 0x08, 0x03] {
+        let line = frame(Ascii, &made::good_message(chance, number));
+        for (place, byte) in (1..line.len()).flat_map(|place| (0..=255).map(move |byte| (place, byte))) {
+            let mut line = line.clone();
+            line[place] = byte;
+            let (before, after) = line.split_at(place + 1);
+            let fresh = || Some(Reader::fresh(self::number(Ascii)));
+            calls.call(Call::Read { reader: fresh(), bytes: line.clone() });
+            calls.call(Call::Read { reader: fresh(), bytes: before.to_vec() });
+            calls.call(Call::Read { reader: None, bytes: after.to_vec() });
         }
     }
 }
