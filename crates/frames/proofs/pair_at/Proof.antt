@@ -27,7 +27,8 @@ both-there : (c : tie.After-worth) → call c .args .at + 2 ≤ length (call c .
 both-there c = omega (arith, c .before .before .if1 .left, call c .pre)
 
 looked : (c : tie.After-worth)
-    → Looked (two (call c .args .bytes .now) (call c .args .at) []) (c .before .two-at .result) 0x0101 (c .worth .result)
+    → let a = call c .args in
+    Looked (two (a .bytes .now) (a .at) []) (c .before .two-at .result) 0x0101 (c .worth .result)
 unfolding lanes
 looked c =
     let a = call c .args in
