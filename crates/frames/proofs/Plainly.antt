@@ -9,7 +9,7 @@ use mathlib.Core.Option.{Option, none, some}
 use mathlib.Core.List.{List, [], _∷_, cons≢nil}
 use lib.Dec.{eqb, leb, ltb}
 use lib.ListN.{length, getD, take, drop, set, length-take, length-drop, drop-of-length-le}
-use lib.Seq.{length-take-le, take-all, take-nil, drop-cons, drop-drop, paste, paste-zero, paste-suc}
+use lib.Seq.{length-take-le, take-all, drop-cons, drop-drop, paste, paste-zero, paste-suc}
 use borrow.Author.Tests.{eqb-true, eqb-false, ltb-false, lt-ltb, le-leb, lt-leb}
 use Rattle.standard.specs.declared.Framing.{Framing}
 use Rattle.standard.specs.declared.Framing.the-variants.{Binary, Ascii}
@@ -244,15 +244,6 @@ growth-bad f n frame bytes k =
 pub growth-narrow : (f : Framing) (n : ℕ) (frame bytes : List ℕ) → roomy n frame ≡ false → growth f n frame bytes ≡ []
 unfolding growth
 growth-narrow f n frame bytes k = rw k
-
--- nor where nothing comes plainly
-pub growth-none : (f : Framing) (n : ℕ) (frame bytes : List ℕ) → plainOf f bytes ≡ [] → growth f n frame bytes ≡ []
-unfolding growth
-growth-none f n frame bytes e = by-test (roomy n frame && lengthOk (lengthOf n frame (plainOf f bytes)))
-  where
-    by-test : (t : Bool) → cond t (take (lengthOf n frame (plainOf f bytes) + beyond f - n) (plainOf f bytes)) [] ≡ []
-    by-test true = rw e (take-nil (lengthOf n frame [] + beyond f - n))
-    by-test false = refl
 
 -- fewer than two characters are no byte
 pub one-character : (bytes : List ℕ) → length bytes < 2 → plainOf Ascii bytes ≡ []
