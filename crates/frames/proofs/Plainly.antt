@@ -9,7 +9,7 @@ use mathlib.Core.Option.{Option, none, some}
 use mathlib.Core.List.{List, [], _∷_, cons≢nil}
 use lib.Dec.{eqb, leb, ltb}
 use lib.ListN.{length, getD, take, drop, set, length-take, length-drop, drop-of-length-le}
-use lib.Seq.{length-take-le, take-all, drop-cons, drop-drop, paste, paste-zero, paste-suc}
+use lib.Seq.{length-take-le, take-all, drop-cons, drop-drop, paste, paste-zero, paste-suc, length-paste}
 use borrow.Author.Tests.{eqb-true, eqb-false, ltb-false, lt-ltb, le-leb, lt-leb}
 use Rattle.standard.specs.declared.Framing.{Framing}
 use Rattle.standard.specs.declared.Framing.the-variants.{Binary, Ascii}
@@ -177,6 +177,12 @@ laid-first f bytes frame held i now e h = record {
   went = subst (Went f bytes) (sym h) (went-none f bytes);
   is = e ∙ paste-zero frame held (plainOf f bytes) ∙ ap (paste frame held (plainOf f bytes)) (sym h);
 }
+
+-- the array's size stays
+pub laid-sized : {f : Framing} {bytes frame : List ℕ} {held i : ℕ} {now : List ℕ} → Laid f bytes frame held i now
+    → held + i ≤ length frame → length now ≡ length frame
+laid-sized {f} {bytes} {frame} {held} {i} l room =
+    ap length (l .is) ∙ length-paste frame held (plainOf f bytes) i room (l .went .some)
 
 pub laid-one : {f : Framing} {bytes frame : List ℕ} {held i : ℕ} {now : List ℕ} (x place : ℕ)
     → Laid f bytes frame held i now → Next (plainOf f (drop (span f i) bytes)) x → x ≤ 255 → place ≡ held + i

@@ -102,12 +102,12 @@ pub fn digit(c: u8) -> u8
     if number < 10 { number } else { other }
 }
 
-// Several characters are looked at together, since one by one they would take longer than with a
-// table: each has eight bits of a number, the first one the lowest, and `ones` is 1 in the place of
-// each. No sum leaves its eight bits.
+// Several characters are looked at together, which takes less time than one by one: each has eight
+// bits of a number, the first one the lowest, and `ones` is 1 in the place of each. No sum leaves its
+// eight bits.
 
-// What each character is worth if it is a digit: its low four bits, and 9 more for a letter, which
-// alone has bit 6.
+// What each character is worth if it is a digit: its low four bits, and 9 more where bit 6 tells a
+// letter.
 fn worth(characters: u64, ones: u64) -> u64
     requires { ⌜ ones ≤ 0x0101010101010101 ⌝ }
     ensures { λ r. ⌜ r ≡ bitAnd (bitAnd characters (ones * 15) + bitAnd characters (ones * 64) / 64 * 9) (ones * 15) ⌝ }

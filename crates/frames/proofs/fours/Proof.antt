@@ -7,14 +7,13 @@ use mathlib.Core.Logic.{inr}
 use mathlib.Core.Bool.{true}
 use lib.Dec.{eqb}
 use lib.ListN.{length, take}
-use lib.Seq.{paste-zero, length-paste}
 use borrow.Author.Tests.{not-false}
 use Rattle.standard.specs.declared.Framing.the-variants.{Ascii}
 use Rattle.standard.specs.Messages.{longest}
 use Rattle.frames.specs.Plain.{plainOf}
 use Rattle.frames.specs.Parts.{Lays}
 use Rattle.frames.proofs.Lanes.{lanes, Looked, looked-few, looked-digits, looked-worth, pairing, sentOf}
-use Rattle.frames.proofs.Plainly.{Laid, went-none, laid-lays}
+use Rattle.frames.proofs.Plainly.{Laid, laid-first, laid-sized, laid-lays}
 use Rattle.frames.proofs.Eights.{eight, eight-bytes, eight-laid}
 use Rattle.frames.proofs.fours.Statement.{statement}
 use Rattle.frames.proofs.fours.Tie as tie
@@ -35,12 +34,7 @@ room c = let s = call c in omega (arith, s .pre .0, s .pre .1 .held, c .loop .in
 
 -- the array's size stays
 sized : (c : tie.At-loop Inv-loop μ-loop) → length (c .loop .frame) ≡ length (call c .args .frame .now)
-sized c =
-    let a = call c .args in
-    let l = c .loop .inv .1 in
-    ap length (l .is)
-    ∙ length-paste (a .frame .now) (a .held) (plainOf Ascii (a .bytes .now)) (c .loop .i)
-    (omega (arith, room c, call c .pre .1 .size)) (l .went .some)
+sized c = laid-sized (c .loop .inv .1) (omega (arith, room c, call c .pre .1 .size))
 
 -- what was taken so far can be handed back
 so-far : (c : tie.At-loop Inv-loop μ-loop)
@@ -79,13 +73,8 @@ passed c = sym (c .before .are-digits .ensures) ∙ not-false _ (c .if2 .left)
 
 loop-holds : tie.Need-loop-holds Inv-loop μ-loop
 loop-holds c =
-    let a = c .before .before .args in (
-      omega arith,
-      record {
-        went = went-none Ascii (a .bytes .now);
-        is = paste-zero (a .frame .now) (a .held) (plainOf Ascii (a .bytes .now));
-      },
-    )
+    let a = c .before .before .args in
+    (omega arith, laid-first Ascii (a .bytes .now) (a .frame .now) (a .held) 0 (a .frame .now) refl refl)
 
 add-loop : tie.Need-add-loop Inv-loop μ-loop
 add-loop c = omega (arith, room c)

@@ -2,16 +2,16 @@
 -- that were held. Assumes nothing.
 use Prim.Native.Nat.{ℕ, _+_, _-_, _≤_}
 use native.Mathlib.Omega.{arith}
-use mathlib.Core.Path.{_≡_, refl, ap, _∙_}
+use mathlib.Core.Path.{_≡_, refl}
 use mathlib.Core.Logic.{inl, inr, ⊎-elim}
 use mathlib.Core.List.{List}
 use lib.ListN.{length}
-use lib.Seq.{length-paste}
 use borrow.Author.Needs.{needs}
 use Rattle.standard.specs.Messages.{longest}
 use Rattle.standard.proofs.Messages.{length-ok}
-use Rattle.frames.specs.Plain.{beyond, plainOf}
-use Rattle.frames.proofs.Plainly.{Laid, beyond-few, went-all, laid-first, laid-one, laid-lays, taken-laid}
+use Rattle.frames.specs.Plain.{beyond}
+use Rattle.frames.proofs.Plainly.{beyond-few, went-all}
+use Rattle.frames.proofs.Plainly.{Laid, laid-first, laid-sized, laid-one, laid-lays, taken-laid}
 use Rattle.frames.proofs.run.Statement.{statement}
 use Rattle.frames.proofs.run.Tie as tie
 
@@ -72,11 +72,7 @@ room c =
 
 -- the array's size stays
 sized : (c : tie.At-loop Inv-loop μ-loop) → length (c .loop .frame) ≡ length (from-turn c .args .frame .now)
-sized c =
-    let s = from-turn c in
-    ap length (laid c .is)
-    ∙ length-paste (s .args .frame .now) (s .args .held) (plainOf (s .args .framing) (s .args .bytes .now)) (c .loop .i)
-    (omega (arith, room c, s .pre .1 .size)) (laid c .went .some)
+sized c = laid-sized (laid c) (omega (arith, room c, from-turn c .pre .1 .size))
 
 beyond-requires : tie.Need-beyond-requires Inv-loop μ-loop
 beyond-requires c κs = tt
