@@ -12,6 +12,9 @@ use lib.Ieee.{Float, nan}
 use lib.ListN.{length, getD, take, drop, replicate, length-drop}
 use lib.Seq.{take-append-seam, drop-append-seam, take-suc, take-all, drop-cons, getD-drop, length-take-le}
 use borrow.Author.Tests.{eq-eqb, ne-eqb, le-leb, lt-leb}
+use borrow.Fn.Kinds.{Dens, endedOf, resT}
+use contract.Lifetimes.{Lfts}
+use denote.Triple.Clauses.{AtExit}
 use Rattle.standard.specs.declared.Framing.{Framing}
 use Rattle.standard.specs.declared.Framing.the-variants.{Binary, Ascii}
 use Rattle.standard.specs.declared.Written.{Written}
@@ -22,7 +25,9 @@ use Rattle.standard.specs.Words.{byte, total}
 use Rattle.standard.specs.Overview.{Counted, Seen, counted, groupNumbers, heardOf, faultedOf, allSeen, nothingSeen}
 use Rattle.standard.specs.Overview.{seenOf}
 use Rattle.standard.specs.Questions.{tableRefusal, partitionRefusal, partitionPart, systemPart}
+use Rattle.standard.specs.Writer.{writtenOf}
 use Rattle.standard.proofs.Questions.{whole-asked}
+use Rattle.standard.proofs.Refusals.{ofTheWriter, refusal-numbers}
 use Rattle.reader.specs.declared.Mode.the-variants.{Open}
 use Rattle.reader.specs.Step.{stepOf}
 use Rattle.reader.specs.Read.{freshReader, scanOf, readOf}
@@ -44,6 +49,8 @@ use Rattle.nx584.specs.Line.{cAnswer}
 use Rattle.nx584.specs.Records.{cZone, cPartition, cSystem}
 use Rattle.nx584.proofs.InC.{read-refused, heard-refused}
 use Rattle.nx584.proofs.Parts.{system-sized}
+use Rattle.nx584.proofs.nx584_write.Kinds as write-kinds
+use Rattle.nx584.proofs.nx584_write.Reads as write
 
 -- ---- the reader's numbers
 
@@ -137,6 +144,13 @@ no-table-is-11 c t bs h =
 
 pub written-once : (w v : Written) → cWritten w ≡ cWritten v → w ≡ v
 written-once w v e = ap (λ (c : CWritten). record { number = c .number; length = c .length }) e
+
+-- every answer has one of the numbers 0, 4, 6, 7, 8 and 9
+pub nx584-write-numbers : (κs : Lfts 2) (a : Dens κs write-kinds.ps)
+    (e : AtExit (endedOf 2 write-kinds.ps write-kinds.r) κs)
+    (x : resT write-kinds.r κs .Denot) → write.Post κs a x e → ofTheWriter (x .number) ≡ true
+unfolding writtenOf
+nx584-write-numbers κs a e x p = ap (λ (c : CWritten). ofTheWriter (c .number)) (p .says) ∙ refusal-numbers _ _ _ _
 
 -- ---- the overview
 

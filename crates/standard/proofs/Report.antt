@@ -4,16 +4,16 @@
 use Prim.Native.Nat.{ℕ, zero, suc, _+_, _-_, _*_, _/_, _%_, _≤_, _<_, zero-le}
 use native.Mathlib.Omega.{arith}
 use mathlib.Core.Path.{_≡_, refl, ap, _∙_}
-use mathlib.Core.Bool.{Bool, true, false, cond, not, _&&_}
+use mathlib.Core.Bool.{Bool, true, false, cond, not}
 use mathlib.Core.Option.{Option, none, some}
 use mathlib.Core.List.{List, [], _∷_, _++_, map, flatMap, append-nil}
-use lib.Dec.{eqb, leb, ltb, eqb·suc-zero}
+use lib.Dec.{eqb, ltb, eqb·suc-zero}
 use lib.ListN.{length, take, drop, replicate, length-append, length-take, length-replicate}
 use lib.Seq.{take-all, take-append-seam}
-use borrow.Author.Tests.{lt-ltb, le-ltb, leb-true}
+use borrow.Author.Tests.{lt-ltb, le-ltb}
 use Rattle.standard.specs.declared.Framing.{Framing}
 use Rattle.standard.specs.declared.Framing.the-variants.{Binary, Ascii}
-use Rattle.standard.specs.Words.{upTo, total, firstOf}
+use Rattle.standard.specs.Words.{upTo, total}
 use Rattle.standard.specs.Messages.{lengthOk, among, messageTests}
 use Rattle.standard.specs.Framing.{startOf, unstuff, recovered, digitsOf, pairs}
 use Rattle.standard.specs.Judge.{Handed, handing, Judged, decided, unfinished, carriesType, sumsDiffer, wholeOf}
@@ -23,7 +23,7 @@ use Rattle.standard.specs.Replies.{replyOf}
 use Rattle.standard.specs.Table.{fresh, tableAfter}
 use Rattle.standard.specs.Overview.{heardOf, faultedOf, groupNumbers}
 use Rattle.standard.proofs.Words.{flatMap-append}
-use Rattle.standard.proofs.Messages.{both-true}
+use Rattle.standard.proofs.Refusals.{first-within}
 use Rattle.standard.proofs.Judge.{unstuff-fault}
 use Rattle.standard.specs.Report.{mostRead, decimal, typeText, replyText, lineWith, verdictLine, countsLine}
 use Rattle.standard.specs.Report.{groupLine, reportOn, reportOf, longestReport, reportedOf, afterReport}
@@ -36,17 +36,6 @@ flatMap-le f most h [] = zero-le
 flatMap-le f most h (x ∷ l) = let a = h x in let b = flatMap-le f most h l in simp length-append (omega arith)
 
 -- ---- a verdict of a stream is one of 0 to 8
-
--- that the number beside each test is at most so much
-abbrev numbersWithin : ℕ → List (Bool × ℕ) → Bool
-numbersWithin most [] = true
-numbersWithin most (test ∷ tests) = leb (test .1) most && numbersWithin most tests
-
-first-within : (most : ℕ) (tests : List (Bool × ℕ)) → numbersWithin most tests ≡ true → firstOf tests ≤ most
-first-within most [] h = zero-le
-first-within most ((true, n) ∷ tests) h = leb-true n most (both-true (leb n most) (numbersWithin most tests) h .0)
-first-within most ((false, n) ∷ tests) h =
-    first-within most tests (both-true (leb n most) (numbersWithin most tests) h .1)
 
 abbrev OnSheet : Judged → Type 0
 OnSheet (decided h) = h .verdict ≤ 8

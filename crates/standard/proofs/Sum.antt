@@ -4,15 +4,12 @@ use native.Mathlib.Nat.{add-zero, mod-add-mod, add-mod-right}
 use native.Mathlib.Numerals.{add-one}
 use native.Mathlib.Omega.{arith}
 use mathlib.Core.Path.{_≡_, refl, sym, ap, _∙_}
-use mathlib.Core.Bool.{false}
 use mathlib.Core.List.{List, [], _∷_, _++_, map, append-assoc, append-nil}
 use lib.ListN.{length, getD, take}
 use lib.Seq.{take-suc}
-use borrow.Author.Tests.{ne-eqb}
 use Rattle.standard.specs.declared.Sums.{Sums}
 use Rattle.standard.specs.Words.{total}
 use Rattle.standard.specs.Sums.{prefixes, sum1, sum2, sumsOf}
-use Rattle.standard.specs.Writer.{sumIsFF}
 use Rattle.standard.proofs.Words.{total-append, map-append}
 
 -- the sums after one byte more, from those before it
@@ -66,12 +63,9 @@ pub sums-small : (bs : List ℕ) → Small (sumsOf bs)
 unfolding sumsOf
 sums-small bs = record { one = omega arith; two = omega arith }
 
--- so no sum byte is FFh
-pub never-ff : (m : List ℕ) → sumIsFF m ≡ false
-never-ff m =
-    let small = sums-small (length m ∷ m) in
-    let s = sumsOf (length m ∷ m) in
-    rw (ne-eqb (s .one) 255 (λ e. omega arith), ne-eqb (s .two) 255 (λ e. omega arith))
+-- so neither is ever FFh, whatever the bytes are
+pub never-ff : (bs : List ℕ) → (sumsOf bs .one ≡ 0xFF → ⊥) × (sumsOf bs .two ≡ 0xFF → ⊥)
+never-ff bs = let small = sums-small bs in ((λ e. omega arith), (λ e. omega arith))
 
 -- where the sums of two lists are alike, they stay so with the same bytes after both
 sums-alike : (p q bs : List ℕ) → sumsOf p ≡ sumsOf q → sumsOf (p ++ bs) ≡ sumsOf (q ++ bs)

@@ -5,4 +5,5 @@ pub mod Answers
 pub mod RoundTrip
 pub mod ReadBack
 pub mod Needless
+pub mod Numbers
 pub mod Unique

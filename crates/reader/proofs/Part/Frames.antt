@@ -3,17 +3,16 @@
 use Prim.Native.Nat.{ℕ, zero, suc, _+_, _≤_, _<_}
 use native.Mathlib.Omega.{arith}
 use mathlib.Core.Path.{_≡_, refl, ap, _∙_}
-use mathlib.Core.Bool.{Bool, true, false, cond, _&&_}
+use mathlib.Core.Bool.{Bool, true, false, cond}
 use mathlib.Core.Option.{Option}
 use mathlib.Core.List.{List, [], _∷_, _++_}
 use lib.Dec.{eqb, leb}
 use lib.ListN.{length, take, drop, length-append}
-use borrow.Author.Tests.{leb-true, lt-ltb, le-ltb}
-use Rattle.standard.specs.Words.{firstOf}
+use borrow.Author.Tests.{lt-ltb, le-ltb}
 use Rattle.standard.specs.Messages.{lengthOk, messageTests}
 use Rattle.standard.specs.Judge.{Judged, plain, stuck, sumsDiffer, wholeOf, frameJudged}
 pub use Rattle.standard.proofs.Decided.{whole-front}
-use Rattle.standard.proofs.Messages.{both-true}
+use Rattle.standard.proofs.Refusals.{numbersIn, first-within}
 
 pub length-snoc : (l : List ℕ) (b : ℕ) → length (l ++ (b ∷ [])) ≡ suc (length l)
 length-snoc l b = length-append l (b ∷ []) ∙ omega arith
@@ -66,20 +65,9 @@ pub whole-stands : (stop : List (Bool × ℕ)) (L : ℕ) (rest : List ℕ) → S
 unfolding wholeOf
 whole-stands stop L rest more = message-stands (eqb (wholeOf stop L rest .verdict) 0) L rest more
 
--- tests with numbers of at most 8, as all are that a frame meets
-abbrev pub onSheet : List (Bool × ℕ) → Bool
-onSheet [] = true
-onSheet (test ∷ tests) = leb (test .1) 8 && onSheet tests
-
-first-sheet : (tests : List (Bool × ℕ)) → onSheet tests ≡ true → firstOf tests ≤ 8
-first-sheet [] k = omega arith
-first-sheet (test ∷ tests) k =
-    let x = both-true (leb (test .1) 8) (onSheet tests) k in
-    by-test (λ n. n ≤ 8) (test .0) (test .1) (firstOf tests) (λ e. leb-true (test .1) 8 (x .0))
-    (λ e. first-sheet tests (x .1))
-
+-- the numbers beside a frame's tests are at most 8, and so is its verdict
 pub whole-sheet : (stop : List (Bool × ℕ)) (L : ℕ) (rest : List ℕ)
-    → onSheet (stop ++ ((sumsDiffer L rest, 5) ∷ messageTests (take L rest))) ≡ true
+    → numbersIn (λ n. leb n 8) (stop ++ ((sumsDiffer L rest, 5) ∷ messageTests (take L rest))) ≡ true
     → wholeOf stop L rest .verdict ≤ 8
 unfolding wholeOf
-whole-sheet stop L rest k = first-sheet (stop ++ ((sumsDiffer L rest, 5) ∷ messageTests (take L rest))) k
+whole-sheet stop L rest k = first-within 8 (stop ++ ((sumsDiffer L rest, 5) ∷ messageTests (take L rest))) k
