@@ -44,9 +44,9 @@ extern "C" {
 #endif
 
 /* The version of these declarations: of the functions, the structs' layouts, the table's bytes and
- * the numbers below. It grows when one of those changes, and only then. A program asks nx584_version()
- * first and stops where it is another number: it was compiled with one version of this file and linked
- * with an archive of another, and no answer would mean what it seems to. */
+ * what the numbers below mean. It grows when one of those changes, and only then. A program asks
+ * nx584_version() first and stops where it is another number: it was compiled with one version of this
+ * file and linked with an archive of another, and no answer would mean what it seems to. */
 #define NX584_VERSION 3
 
 /* ---- sizes */
@@ -88,7 +88,6 @@ extern "C" {
 
 /* Refusals, beside 4, 6, 7 and 8. Of a message that is handed to a call, 4 is also a length above 255. */
 #define NX584_NO_ROOM 9          /* the frame does not fit from its place to the end of the buffer */
-#define NX584_SUM_FF 10          /* a sum byte would be FFh; no message is known to cause it */
 #define NX584_NO_TABLE 11        /* the buffer is not NX584_TABLE_BYTES long */
 #define NX584_NOT_SOUND 12       /* the reader is none that the library made */
 #define NX584_NO_COMMAND 13      /* a good message, and none of the 14 commands */

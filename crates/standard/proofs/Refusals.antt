@@ -1,20 +1,19 @@
 -- Laws of refusals in their order: which numbers there are. Assumes nothing.
 use Prim.Native.Nat.{ℕ, _≤_}
-use native.Mathlib.Omega.{arith}
-use mathlib.Core.Path.{_≡_, refl, sym, ap, _∙_}
-use mathlib.Core.Bool.{Bool, true, false, cond, _&&_}
-use mathlib.Core.List.{List, [], _∷_, _++_}
-use lib.Dec.{eqb, leb}
-use lib.ListN.{length}
-use borrow.Author.Tests.{leb-true, ne-eqb}
+use mathlib.Core.Path.{_≡_, refl}
+use mathlib.Core.Bool.{Bool, true, false, _&&_}
+use mathlib.Core.List.{List, [], _∷_, map, flatMap}
+use lib.Dec.{leb}
+use lib.ListN.{replicate}
+use borrow.Author.Tests.{leb-true}
 use Rattle.standard.specs.declared.Framing.{Framing}
-use Rattle.standard.specs.Words.{firstOf}
-use Rattle.standard.specs.Sums.{sumsOf}
-use Rattle.standard.specs.Messages.{among, messageTests, checkOf}
-use Rattle.standard.specs.Framing.{frameOf}
-use Rattle.standard.specs.Writer.{sumIsFF, noRoom, writeRefusal}
-use Rattle.standard.proofs.Sum.{never-ff}
-use Rattle.standard.proofs.Messages.{both-true, check-then}
+use Rattle.standard.specs.declared.Framing.the-variants.{Binary, Ascii}
+use Rattle.standard.specs.Words.{total, firstOf}
+use Rattle.standard.specs.Sums.{prefixes, sumsOf}
+use Rattle.standard.specs.Messages.{lengthFor, among, valuesOk}
+use Rattle.standard.specs.Framing.{coding, frameOf}
+use Rattle.standard.specs.Writer.{writeTests, writeRefusal}
+use Rattle.standard.proofs.Messages.{both-true}
 
 -- that 0, and the number beside each test, is one that p has
 abbrev pub numbersIn : (ℕ → Bool) → List (Bool × ℕ) → Bool
@@ -37,31 +36,23 @@ first-within most tests h = leb-true (firstOf tests) most (first-in (λ n. leb n
 abbrev pub ofTheWriter : ℕ → Bool
 ofTheWriter n = among n (0 ∷ 4 ∷ 6 ∷ 7 ∷ 8 ∷ 9 ∷ [])
 
-no-ff : (m : List ℕ) → sumIsFF m ≡ false
-no-ff m =
-    let s = sumsOf (length m ∷ m) in
-    let never = never-ff (length m ∷ m) in
-    rw (ne-eqb (s .one) 0xFF (never .0), ne-eqb (s .two) 0xFF (never .1))
+-- for every message, framing, buffer and place
+pub refusal-numbers : (m : List ℕ) (f : Framing) (out : List ℕ) (place : ℕ)
+    → ofTheWriter (writeRefusal m f out place) ≡ true
+unfolding writeRefusal
+refusal-numbers m f out place = first-in ofTheWriter (writeTests m f out place) refl
 
-module _ (m : List ℕ) (f : Framing) (out : List ℕ) (place : ℕ) where
-  abbrev room : List (Bool × ℕ)
-  room = (noRoom (length (frameOf f m)) place (length out), 9) ∷ []
-
-  -- the refusals are the same without 10
-  pub without-ten : writeRefusal m f out place ≡ firstOf (messageTests m ++ room)
-  unfolding writeRefusal
-  without-ten =
-      check-then m ((sumIsFF m, 10) ∷ room)
-      ∙ ap (λ t. cond (eqb (checkOf m) 0) (firstOf ((t, 10) ∷ room)) (checkOf m)) (no-ff m)
-      ∙ sym (check-then m room)
-
-  -- for every message, framing, buffer and place
-  pub refusal-numbers : ofTheWriter (writeRefusal m f out place) ≡ true
-  refusal-numbers = ap ofTheWriter without-ten ∙ first-in ofTheWriter (messageTests m ++ room) refl
-
-  -- so no message causes 10
-  pub never-ten : writeRefusal m f out place ≡ 10 → ⊥
-  never-ten e =
-      let z : false ≡ true = ap ofTheWriter (sym e) ∙ refusal-numbers in
-      let y : _≡_ {A = ℕ} 0 1 = ap (λ t. cond t 1 0) z in
-      absurd (omega arith)
+-- and each of them is answered, in this order: in a buffer of no byte there is no room either
+pub each-answered : (f : Framing)
+    → map (λ (c : List ℕ × ℕ). writeRefusal (c .0) f (replicate (c .1) 0) 0)
+    (([], 0)
+    ∷ (0x22 ∷ [], 0)
+    ∷ (0x26 ∷ 8 ∷ 0 ∷ [], 0)
+    ∷ (0x26 ∷ 8 ∷ [], 0)
+    ∷ (0x26 ∷ 7 ∷ [], 0)
+    ∷ (0x26 ∷ 7 ∷ [], 12)
+    ∷ [])
+    ≡ 4 ∷ 6 ∷ 7 ∷ 8 ∷ 9 ∷ 0 ∷ []
+unfolding writeRefusal lengthFor valuesOk frameOf coding flatMap sumsOf total prefixes
+each-answered Binary = refl
+each-answered Ascii = refl

@@ -8,22 +8,19 @@ use lib.ListN.{length}
 use Rattle.standard.specs.declared.Framing.{Framing}
 use Rattle.standard.specs.declared.Written.{Written}
 use Rattle.standard.specs.Words.{firstOf, laid}
-use Rattle.standard.specs.Sums.{sumsOf}
 use Rattle.standard.specs.Messages.{messageTests}
 use Rattle.standard.specs.Framing.{frameOf}
-
--- "a sum byte would be FFh"
-abbrev pub sumIsFF : List ℕ → Bool
-sumIsFF m = eqb (sumsOf (length m ∷ m) .one) 0xFF || eqb (sumsOf (length m ∷ m) .two) 0xFF
 
 -- "the frame does not fit from its place to the end of the buffer, or the place is beyond the end"
 abbrev pub noRoom : ℕ → ℕ → ℕ → Bool
 noRoom frame place size = ltb (size - place) frame || ltb size place
 
--- "Order: 4 (empty message or over" 255 "), 6, 7, 8, 10, 9"
+-- "Order: 4 (empty message or over" 255 "), 6, 7, 8," 9 (document 02, No. 2 and No. 4)
+abbrev pub writeTests : List ℕ → Framing → List ℕ → ℕ → List (Bool × ℕ)
+writeTests m f out place = messageTests m ++ ((noRoom (length (frameOf f m)) place (length out), 9) ∷ [])
+
 unfoldable pub writeRefusal : List ℕ → Framing → List ℕ → ℕ → ℕ
-writeRefusal m f out place =
-    firstOf (messageTests m ++ ((sumIsFF m, 10) ∷ (noRoom (length (frameOf f m)) place (length out), 9) ∷ []))
+writeRefusal m f out place = firstOf (writeTests m f out place)
 
 -- "says its length"; "a refusal says length 0"
 unfoldable pub writtenOf : List ℕ → Framing → List ℕ → ℕ → Written

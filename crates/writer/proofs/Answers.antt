@@ -10,22 +10,21 @@ use Rattle.standard.specs.Messages.{checkOf}
 use Rattle.standard.specs.Framing.{frameOf}
 use Rattle.standard.specs.Writer.{noRoom, writeRefusal, writtenOf, afterWrite, Wrote}
 use Rattle.standard.proofs.Messages.{check-then}
-use Rattle.standard.proofs.Refusals.{without-ten}
 use Rattle.writer.specs.Refusing.{refusing, roomRefusal}
 
 module _ (m : List ℕ) (f : Framing) (out : List ℕ) (place : ℕ) where
   -- the message's own refusal comes first
   pub first-refusal : (checkOf m ≡ 0 → ⊥) → writeRefusal m f out place ≡ checkOf m
+  unfolding writeRefusal
   first-refusal h =
-      without-ten m f out place
-      ∙ check-then m ((noRoom (length (frameOf f m)) place (length out), 9) ∷ [])
+      check-then m ((noRoom (length (frameOf f m)) place (length out), 9) ∷ [])
       ∙ rw (ne-eqb (checkOf m) 0 h)
 
   -- then only the room is left
   pub last-refusal : checkOf m ≡ 0 → writeRefusal m f out place ≡ roomRefusal (length (frameOf f m)) place (length out)
+  unfolding writeRefusal
   last-refusal h =
-      without-ten m f out place
-      ∙ check-then m ((noRoom (length (frameOf f m)) place (length out), 9) ∷ [])
+      check-then m ((noRoom (length (frameOf f m)) place (length out), 9) ∷ [])
       ∙ rw (eq-eqb (checkOf m) 0 h)
 
   -- a refusal says length 0 and stores nothing

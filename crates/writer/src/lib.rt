@@ -64,8 +64,8 @@ fn frame_length(message: &[u8], framing: Framing) -> usize
     }
 }
 
-// What is refused of a message that passed: 9. There is no test for 10, since "a sum is 0 to 254".
-// Where the longest frame would fit, the message's own need not be measured.
+// What is refused of a message that passed: 9. Where the longest frame would fit, the message's own
+// need not be measured.
 fn refusal(message: &[u8], framing: Framing, place: usize, size: usize) -> u8
     requires { ⌜ checkOf (now message) ≡ 0 ⌝ }
     ensures { λ r. ⌜ r ≡ roomRefusal (length (frameOf framing (now (message .entry)))) place size ⌝ }

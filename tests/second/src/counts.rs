@@ -6,7 +6,7 @@ use crate::messages::{LENGTHS, LONGEST, LONGEST_KNOWN};
 use crate::odd::{Wrong, WRONGS};
 use crate::reader::{Reader, NONE};
 
-/// What is counted apart, and the numbers that a run must have met in it. Refusal 10 has no cause.
+/// What is counted apart, and the numbers that a run must have met in it.
 const ROWS: [(&str, &[u8]); 29] = [
     ("read and step, binary: verdict", &[0, 1, 4, 5, 6, 7, 8, 12, NONE]),
     ("read and step, ASCII: verdict", &[0, 1, 2, 3, 4, 5, 6, 7, 8, 12, NONE]),

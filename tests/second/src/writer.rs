@@ -1,6 +1,6 @@
 //! The writer and the host's replies (document 01, "Verdicts and refusals" and "What the host replies").
 
-use crate::messages::{length_of, sums, verdict_of};
+use crate::messages::{length_of, verdict_of};
 use crate::parts::frame;
 use crate::reader::framing_of;
 
@@ -12,18 +12,12 @@ pub struct Written {
     pub out: Vec<u8>,
 }
 
-/// Order: 4, 6, 7, 8, 10, 9. A refusal says length 0 and leaves the buffer.
+/// Order: 4, 6, 7, 8, 9. A refusal says length 0 and leaves the buffer.
 pub fn write(message: &[u8], framing: u8, out: &[u8], place: u64) -> Written {
     let refused = |number| Written { number, length: 0, out: out.to_vec() };
     let verdict = verdict_of(message);
     if verdict != 0 {
         return refused(verdict);
-    }
-    let mut summed = vec![message.len() as u8];
-    summed.extend_from_slice(message);
-    let (sum1, sum2) = sums(&summed);
-    if sum1 == 0xFF || sum2 == 0xFF {
-        return refused(10);
     }
     let frame = frame(framing_of(framing), message);
     let end = u128::from(place) + frame.len() as u128;
