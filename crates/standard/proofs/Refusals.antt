@@ -15,12 +15,12 @@ use Rattle.standard.specs.Framing.{coding, frameOf}
 use Rattle.standard.specs.Writer.{writeTests, writeRefusal}
 use Rattle.standard.proofs.Messages.{both-true}
 
--- that 0, and the number beside each test, is one that p has
+-- p holds of 0, and of the number beside each test
 abbrev pub numbersIn : (ℕ → Bool) → List (Bool × ℕ) → Bool
 numbersIn p [] = p 0
 numbersIn p (test ∷ tests) = p (test .1) && numbersIn p tests
 
--- then the first is
+-- so it holds of what is refused
 pub first-in : (p : ℕ → Bool) (tests : List (Bool × ℕ)) → numbersIn p tests ≡ true → p (firstOf tests) ≡ true
 first-in p [] h = h
 first-in p ((true, n) ∷ tests) h = both-true (p n) (numbersIn p tests) h .0
@@ -42,7 +42,7 @@ pub refusal-numbers : (m : List ℕ) (f : Framing) (out : List ℕ) (place : ℕ
 unfolding writeRefusal
 refusal-numbers m f out place = first-in ofTheWriter (writeTests m f out place) refl
 
--- and each of them is answered, in this order: in a buffer of no byte there is no room either
+-- and each of them is answered, in this order: of what is refused here the next test holds too
 pub each-answered : (f : Framing)
     → map (λ (c : List ℕ × ℕ). writeRefusal (c .0) f (replicate (c .1) 0) 0)
     (([], 0)

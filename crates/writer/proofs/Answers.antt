@@ -1,7 +1,9 @@
 -- The definition of the writer's answer, case by case, as `write` comes to it. Assumes nothing.
 use Prim.Native.Nat.{ℕ}
 use mathlib.Core.Path.{_≡_, _∙_}
+use mathlib.Core.Bool.{cond}
 use mathlib.Core.List.{List, [], _∷_}
+use lib.Dec.{eqb}
 use lib.ListN.{length}
 use borrow.Author.Tests.{eq-eqb, ne-eqb}
 use Rattle.standard.specs.declared.Framing.{Framing}
@@ -13,19 +15,17 @@ use Rattle.standard.proofs.Messages.{check-then}
 use Rattle.writer.specs.Refusing.{refusing, roomRefusal}
 
 module _ (m : List ℕ) (f : Framing) (out : List ℕ) (place : ℕ) where
-  -- the message's own refusal comes first
-  pub first-refusal : (checkOf m ≡ 0 → ⊥) → writeRefusal m f out place ≡ checkOf m
+  -- the message's own refusals come first, then the room
+  in-order : writeRefusal m f out place
+      ≡ cond (eqb (checkOf m) 0) (roomRefusal (length (frameOf f m)) place (length out)) (checkOf m)
   unfolding writeRefusal
-  first-refusal h =
-      check-then m ((noRoom (length (frameOf f m)) place (length out), 9) ∷ [])
-      ∙ rw (ne-eqb (checkOf m) 0 h)
+  in-order = check-then m ((noRoom (length (frameOf f m)) place (length out), 9) ∷ [])
 
-  -- then only the room is left
+  pub first-refusal : (checkOf m ≡ 0 → ⊥) → writeRefusal m f out place ≡ checkOf m
+  first-refusal h = in-order ∙ rw (ne-eqb (checkOf m) 0 h)
+
   pub last-refusal : checkOf m ≡ 0 → writeRefusal m f out place ≡ roomRefusal (length (frameOf f m)) place (length out)
-  unfolding writeRefusal
-  last-refusal h =
-      check-then m ((noRoom (length (frameOf f m)) place (length out), 9) ∷ [])
-      ∙ rw (eq-eqb (checkOf m) 0 h)
+  last-refusal h = in-order ∙ rw (eq-eqb (checkOf m) 0 h)
 
   -- a refusal says length 0 and stores nothing
   pub told-refused : (n : ℕ) → writeRefusal m f out place ≡ n → (n ≡ 0 → ⊥) → Wrote m f out place (refusing n) out

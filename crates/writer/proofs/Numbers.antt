@@ -1,4 +1,4 @@
--- What `write` says of an answer's number, of every answer that meets its contract. Assumes nothing.
+-- Which numbers `write` answers. Assumes nothing.
 use mathlib.Core.Path.{_≡_, ap, _∙_}
 use mathlib.Core.Bool.{true}
 use borrow.Fn.Kinds.{Dens, endedOf, resT}
@@ -9,7 +9,7 @@ use Rattle.standard.proofs.Refusals.{ofTheWriter, refusal-numbers}
 use Rattle.writer.proofs.write.Kinds.{ps, r}
 use Rattle.writer.proofs.write.Reads.{Post}
 
--- EVERY ANSWER OF THE WRITER has one of the numbers 0, 4, 6, 7, 8 and 9
+-- EVERY ANSWER THAT MEETS THE CONTRACT has one of the numbers 0, 4, 6, 7, 8 and 9
 pub write-numbers : (κs : Lfts 2) (a : Dens κs ps) (e : AtExit (endedOf 2 ps r) κs) (x : resT r κs .Denot)
     → Post κs a x e → ofTheWriter (x .number) ≡ true
 unfolding writtenOf
