@@ -27,7 +27,8 @@ first-in p ((true, n) ∷ tests) h = both-true (p n) (numbersIn p tests) h .0
 first-in p ((false, n) ∷ tests) h = first-in p tests (both-true (p n) (numbersIn p tests) h .1)
 
 -- of numbers that are at most so much
-pub first-within : (most : ℕ) (tests : List (Bool × ℕ)) → numbersIn (λ n. leb n most) tests ≡ true → firstOf tests ≤ most
+pub first-within : (most : ℕ) (tests : List (Bool × ℕ)) → numbersIn (λ n. leb n most) tests ≡ true
+    → firstOf tests ≤ most
 first-within most tests h = leb-true (firstOf tests) most (first-in (λ n. leb n most) tests h)
 
 -- ---- the writer's (document 02, No. 4)
