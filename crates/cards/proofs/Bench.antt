@@ -1,6 +1,8 @@
--- The definitions say of every card what the card says. Assumes nothing.
+-- The definitions say of every card what the card says, by each rule of escapes. Assumes nothing.
 use mathlib.Core.Path.{_≡_, refl}
 use mathlib.Core.List.{map, flatMap}
+use Rattle.standard.specs.declared.Escapes.{Escapes}
+use Rattle.standard.specs.declared.Escapes.the-variants.{Strict, Lenient}
 use Rattle.standard.specs.Words.{upTo, total}
 use Rattle.standard.specs.Sums.{prefixes, sumsOf}
 use Rattle.standard.specs.Messages.{lengthFor, valuesOk}
@@ -11,13 +13,14 @@ use Rattle.standard.specs.Table.{fresh, storesFrom, writesOf, doneAll, applyRef
 use Rattle.standard.specs.Overview.{heardOf, faultedOf}
 use Rattle.standard.specs.Report.{reportOn, reportOf}
 use Rattle.cards.specs.Text.{characters}
-use Rattle.cards.specs.Cards.{cards, toldOf}
+use Rattle.cards.specs.Cards.{marked, ours, cards, toldOf}
 use Rattle.cards.specs.Printed.{capture, printed, ofLines}
 
-pub bench : map (λ c. toldOf (c .line)) cards ≡ map (λ c. c .told) cards
-unfolding cards flatMap upTo total prefixes sumsOf lengthFor valuesOk unstuff digitsOf pairs wholeOf replyOf fresh
+pub bench : (rule : Escapes) → map (λ c. toldOf rule (c .line)) (cards rule) ≡ map (λ c. c .told) (cards rule)
+unfolding marked ours flatMap upTo total prefixes sumsOf lengthFor valuesOk unstuff digitsOf pairs wholeOf replyOf fresh
     storesFrom writesOf doneAll applyRefusal appliedTo tableAfter
-bench = refl
+bench Strict = refl
+bench Lenient = refl
 
 -- card 13, the only one that says what is printed
 pub report : reportOf capture ≡ ofLines printed

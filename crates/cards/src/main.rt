@@ -1,6 +1,7 @@
-// The bench cards of document 01 that are marked P. Their table is specs/Cards.antt, and one statement
-// covers it, proofs/Bench.antt. This program runs the same rows on the code: for each verdict a line
-// of card, verdict and reply, then for each zone that is heard a line of card, zone and short flags.
+// The bench cards of document 01 that are marked P, and two of ours, 14 and 15. Their table is
+// specs/Cards.antt, and one statement covers it, proofs/Bench.antt. This program runs the same rows on
+// the code, by the strict rule of escapes and then by the old one: for each verdict a line of card,
+// verdict and reply, then for each zone that is heard a line of card, zone and short flags.
 use libc::STDOUT_FILENO;
 use reader::Reader;
 use standard::Framing;
@@ -33,8 +34,8 @@ fn zones(card: u64, table: &[u8]) {
 }
 
 // The verdicts of a line, call by call; at most one call for each byte.
-fn verdicts(card: u64, framing: Framing, bytes: &[u8], table: &mut [u8]) {
-    let mut reader = Reader::fresh(framing);
+fn verdicts(card: u64, fresh: Reader, bytes: &[u8], table: &mut [u8]) {
+    let mut reader = fresh;
     let mut place = 0;
     let mut calls = 0;
     while calls < bytes.len() {
@@ -61,10 +62,15 @@ fn verdicts(card: u64, framing: Framing, bytes: &[u8], table: &mut [u8]) {
     }
 }
 
-fn run(card: u64, framing: Framing, bytes: &[u8]) {
+fn run_by(card: u64, fresh: Reader, bytes: &[u8]) {
     let mut table = table::fresh();
-    verdicts(card, framing, bytes, &mut table);
+    verdicts(card, fresh, bytes, &mut table);
     zones(card, &table);
+}
+
+fn run(card: u64, framing: Framing, bytes: &[u8]) {
+    run_by(card, Reader::fresh(framing), bytes);
+    run_by(card, Reader::fresh_lenient(framing), bytes);
 }
 
 fn main() {
@@ -95,4 +101,10 @@ fn main() {
         Framing::Binary,
         b"\x7E\x13\x22\x00\x00\x00\x00\x00\x00\x00\x00\x00\x00\x00\x00\x00\x00\x00\x00\x00\x00\x35\x06",
     );
+    run(
+        14,
+        Framing::Binary,
+        b"\x7E\x08\x84\x09\x7D\x5F\x10\x58\x00\x01\x00\x7D\x5D\x56",
+    );
+    run(15, Framing::Binary, b"\x7E\x7D\x20");
 }

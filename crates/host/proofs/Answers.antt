@@ -45,18 +45,18 @@ heard-read r t bs h w = heard-scan r t bs h ∙ lent-read r bs w
 -- ---- what it answers
 
 -- a refusal: nothing is used, reader and table stay, and there is no reply
-pub refused : (number : ℕ) (r : Reader) (t bs : List ℕ) → 9 ≤ number
+pub refused : (number : ℕ) (r : Reader) (t bs : List ℕ) → 9 ≤ number → (number ≡ 15 → ⊥)
     → heardBy r t bs ≡ record { reader = r; used = 0; said = handing number [] ∷ [] }
     → Hears r t bs r 0 (Gave (record { number = number; «type_byte» = 0; length = 0 })) Nothing t
 unfolding tableAfter
-refused number r t bs h e =
+refused number r t bs h other e =
     let some = ne-eqb number 0 (λ z. omega arith) in
     let above = le-leb 6 number (omega arith) in
     let beyond = lt-leb number 8 (omega arith) in
     record {
       gives = rw (e, some, above, beyond) (record { next = refl; verdict = refl; handed = refl });
       uses = rw e;
-      replies = rw e (sym (reply-none number _ h));
+      replies = rw e (sym (reply-none number _ h other));
       leaves = rw (e, some);
     }
 

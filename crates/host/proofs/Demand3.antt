@@ -10,6 +10,7 @@ use mathlib.Core.List.{List, [], _∷_, _++_, flatMap}
 use lib.Dec.{eqb}
 use lib.ListN.{length, drop}
 use Rattle.standard.specs.declared.Framing.{Framing}
+use Rattle.standard.specs.declared.Escapes.{Escapes}
 use Rattle.standard.specs.Messages.{longest}
 use Rattle.standard.specs.Judge.{Handed}
 use Rattle.standard.specs.Table.{tableBytes, fresh, appliedTo, tableAfter}
@@ -54,8 +55,8 @@ pub record Fit (r : Reader) (t : List ℕ) : Type 0 where
   pub table : length t ≡ tableBytes
   pub array : length (r .bytes) ≡ longest + 3
 
-pub fresh-fit : (f : Framing) → Fit (freshReader f) fresh
-fresh-fit f = record { table = fresh-whole; array = refl }
+pub fresh-fit : (rule : Escapes) (f : Framing) → Fit (freshReader rule f) fresh
+fresh-fit rule f = record { table = fresh-whole; array = refl }
 
 pub fit-read : (r : Reader) (t bs : List ℕ) → Fit r t → Fit (readOf r bs .reader) (tableAfter t (readOf r bs .said))
 unfolding Whole
@@ -85,11 +86,11 @@ hearings-calls (suc n) r t (bs ∷ reads) w =
     ∙ also-as t said (callsOf n next left) (one-said r bs))
 
 -- the caller that hands in what is left before the next read
-pub demand3 : (f : Framing) (reads : List (List ℕ)) → hearAll (freshReader f) fresh reads ≡ streamHeard f (joined reads)
+pub demand3 : (rule : Escapes) (f : Framing) (reads : List (List ℕ)) → hearAll (freshReader rule f) fresh reads ≡ streamHeard rule f (joined reads)
 unfolding hearAll drive
-demand3 f reads =
-    hearings-calls (length (joined reads) + length reads) (freshReader f) fresh reads (fresh-fit f)
-    ∙ ap (heardAs fresh) (reads-are-parts f reads)
+demand3 rule f reads =
+    hearings-calls (length (joined reads) + length reads) (freshReader rule f) fresh reads (fresh-fit rule f)
+    ∙ ap (heardAs fresh) (reads-are-parts rule f reads)
 
 -- what any caller has heard, and that its reads are those of a caller of `read`
 record Calling (r : Reader) (t : List ℕ) (reads : List (List ℕ)) (heard : Heard) : Type 0 where
@@ -115,8 +116,8 @@ calling (call {r} {t} {bs} {reads} {again} {later} j c) w =
     calling-again r t bs reads again later (heardBy r t bs) e j (calling c (rw e (fit-read r t bs w)))
 
 -- the same for any caller, which cuts again as it likes what is left and what is still to come
-pub demand3-any-caller : (f : Framing) {reads : List (List ℕ)} {heard : Heard}
-    → Hearings (freshReader f) fresh reads heard → heard ≡ streamHeard f (joined reads)
-demand3-any-caller f {reads} {heard} c =
-    let w = calling c (fresh-fit f) in
-    w .heard-as ∙ ap (heardAs fresh) (any-caller f (w .calls))
+pub demand3-any-caller : (rule : Escapes) (f : Framing) {reads : List (List ℕ)} {heard : Heard}
+    → Hearings (freshReader rule f) fresh reads heard → heard ≡ streamHeard rule f (joined reads)
+demand3-any-caller rule f {reads} {heard} c =
+    let w = calling c (fresh-fit rule f) in
+    w .heard-as ∙ ap (heardAs fresh) (any-caller rule f (w .calls))

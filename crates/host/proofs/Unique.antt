@@ -6,6 +6,7 @@ use mathlib.Core.List.{List}
 use borrow.Fn.Kinds.{Dens, endedOf, resT}
 use contract.Lifetimes.{Lfts}
 use denote.Triple.Clauses.{AtExit}
+use Rattle.standard.specs.declared.Escapes.{Escapes}
 use Rattle.standard.specs.declared.Said.{Said}
 use Rattle.standard.specs.declared.Reply.{Reply}
 use Rattle.standard.proofs.Stream.{verdicts-same}
@@ -53,9 +54,9 @@ pub hear-unique : (κs : Lfts 2) (a : Dens κs hear-kinds.ps) (e e′ : AtExit (
 hear-unique κs a e e′ x y p q = one _ _ _ x y (e .1 .0 .now) (e′ .1 .0 .now) p q
 
 -- the answer of `listen` with the frame's bytes, as that of `hear`
-abbrev asHearing : Listened → List ℕ → Hearing
-asHearing l frame = record {
-  reader = record { mode = l .mode; held = l .held; bytes = frame };
+abbrev asHearing : Escapes → Listened → List ℕ → Hearing
+asHearing rule l frame = record {
+  reader = record { mode = l .mode; held = l .held; bytes = frame; escapes = rule };
   used = l .used;
   said = l .said;
   reply = l .reply;
@@ -73,9 +74,11 @@ asListened h = record {
 pub listen-unique : (κs : Lfts 3) (a : Dens κs listen-kinds.ps)
     (e e′ : AtExit (endedOf 3 listen-kinds.ps listen-kinds.r) κs) (x y : resT listen-kinds.r κs .Denot)
     → listen.Post κs a x e → listen.Post κs a y e′
-    → (x ≡ y) × (e .1 .1 .0 .now ≡ e′ .1 .1 .0 .now) × (e .1 .1 .1 .0 .now ≡ e′ .1 .1 .1 .0 .now)
+    → (x ≡ y) × (e .1 .1 .1 .0 .now ≡ e′ .1 .1 .1 .0 .now) × (e .1 .1 .1 .1 .0 .now ≡ e′ .1 .1 .1 .1 .0 .now)
 listen-unique κs a e e′ x y p q =
-    let frame = e .1 .1 .0 .now in
-    let frame′ = e′ .1 .1 .0 .now in
-    let same = one _ _ _ (asHearing x frame) (asHearing y frame′) (e .1 .1 .1 .0 .now) (e′ .1 .1 .1 .0 .now) p q in
+    let rule = a .0 in
+    let frame = e .1 .1 .1 .0 .now in
+    let frame′ = e′ .1 .1 .1 .0 .now in
+    let same =
+    one _ _ _ (asHearing rule x frame) (asHearing rule y frame′) (e .1 .1 .1 .1 .0 .now) (e′ .1 .1 .1 .1 .0 .now) p q in
     (ap asListened (same .0), ap (λ (h : Hearing). h .reader .bytes) (same .0), same .1)

@@ -7,6 +7,7 @@ use mathlib.Core.List.{List, [], _∷_, _++_, map, flatMap}
 use lib.Dec.{eqb}
 use lib.ListN.{length, drop}
 use Rattle.standard.specs.declared.Framing.{Framing}
+use Rattle.standard.specs.declared.Escapes.{Escapes}
 use Rattle.standard.specs.Framing.{startOf}
 use Rattle.standard.specs.Judge.{Handed}
 use Rattle.standard.specs.Stream.{handedOf}
@@ -42,8 +43,8 @@ heardAs t hs = record {
 }
 
 -- THE UNCUT STREAM: split before every start byte, each part judged by itself, its replies, and a fresh table after it
-abbrev pub streamHeard : Framing → List ℕ → Heard
-streamHeard f stream = heardAs fresh (handedOf f stream)
+abbrev pub streamHeard : Escapes → Framing → List ℕ → Heard
+streamHeard rule f stream = heardAs fresh (handedOf rule f stream)
 
 -- ---- calls
 
@@ -92,11 +93,11 @@ pub data Hearings : Reader → List ℕ → List (List ℕ) → Heard → Type 0
 -- ---- an intact frame, between any bytes p and q
 
 -- before it: p, as if the frame's start byte were its last
-abbrev pub heardBefore : Framing → List ℕ → Heard
-heardBefore f p = streamHeard f (p ++ (startOf f ∷ []))
+abbrev pub heardBefore : Escapes → Framing → List ℕ → Heard
+heardBefore rule f p = streamHeard rule f (p ++ (startOf f ∷ []))
 
 -- its own verdict h with the reply to it, a good message in the table, and then what q gives
-abbrev pub heardAmid : Framing → List ℕ → Handed → List ℕ → Heard
-heardAmid f p h q =
-    let t = heardBefore f p .table in
-    thenHeard (heardBefore f p) (alsoHeard (h ∷ []) (replyFor h) (heardAs (tableAfter t (h ∷ [])) (handedOf f q)))
+abbrev pub heardAmid : Escapes → Framing → List ℕ → Handed → List ℕ → Heard
+heardAmid rule f p h q =
+    let t = heardBefore rule f p .table in
+    thenHeard (heardBefore rule f p) (alsoHeard (h ∷ []) (replyFor h) (heardAs (tableAfter t (h ∷ [])) (handedOf rule f q)))

@@ -8,6 +8,7 @@ ghost use Rattle.standard.specs.Table.{tableAfter};
 ghost use Rattle.host.specs.Hear.{Hears};
 use reader::Mode;
 use reader::Reader;
+use standard::Escapes;
 use standard::Reply;
 use standard::Said;
 use standard::Verdict;
@@ -59,18 +60,19 @@ fn store(table: &mut [u8], verdict: Verdict, frame: &[u8])
 
 // `hear` with the frame's bytes in lent memory, as `reader::scan` has them.
 pub fn listen(
+    escapes: Escapes,
     from: Mode,
     count: usize,
     frame: &mut [u8],
     table: &mut [u8],
     bytes: &[u8],
 ) -> Listened
-    ensures { λ r. ⌜ Hears (record { mode = from; held = count; bytes = now (frame .entry) }) (now (table .entry)) (now (bytes .entry)) (record { mode = r .mode; held = r .held; bytes = now (frame .exit) }) (r .used) (r .said) (r .reply) (now (table .exit)) ⌝ }
+    ensures { λ r. ⌜ Hears (record { mode = from; held = count; bytes = now (frame .entry); escapes = escapes }) (now (table .entry)) (now (bytes .entry)) (record { mode = r .mode; held = r .held; bytes = now (frame .exit); escapes = escapes }) (r .used) (r .said) (r .reply) (now (table .exit)) ⌝ }
 {
     if table::refusal(table) != 0 {
         return refused(from, count, 11);
     }
-    let answer = reader::scan(from, count, frame, bytes);
+    let answer = reader::scan(escapes, from, count, frame, bytes);
     let mode = answer.mode;
     let said = answer.said;
     match said {
@@ -99,8 +101,9 @@ pub fn hear(reader: Reader, table: &mut [u8], bytes: &[u8]) -> Hearing
     ensures { λ r. ⌜ Hears reader (now (table .entry)) (now (bytes .entry)) (r .reader) (r .used) (r .said) (r .reply) (now (table .exit)) ⌝ }
 {
     let from = reader.mode;
+    let escapes = reader.escapes;
     let mut frame = reader.bytes;
-    let answer = listen(from, reader.held, &mut frame, table, bytes);
+    let answer = listen(escapes, from, reader.held, &mut frame, table, bytes);
     let mode = answer.mode;
     let said = answer.said;
     let reply = answer.reply;
@@ -109,6 +112,7 @@ pub fn hear(reader: Reader, table: &mut [u8], bytes: &[u8]) -> Hearing
             mode,
             held: answer.held,
             bytes: frame,
+            escapes,
         },
         used: answer.used,
         said,

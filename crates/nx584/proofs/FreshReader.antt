@@ -1,4 +1,4 @@
--- Demand 2 over the reader's own `read`: a fresh reader on a written frame, whatever follows it, gives verdict 0 and
+-- Demand 2 over the reader's own `read`: a fresh reader of either rule on a written frame, whatever follows it, gives verdict 0 and
 -- the message, and uses exactly the frame's bytes. By the used-byte rule: the frame hands out its message, and no
 -- shorter beginning of it hands out anything. Assumes nothing.
 use Prim.Native.Nat.{ℕ, _+_, _<_}
@@ -9,6 +9,7 @@ use mathlib.Core.List.{List, [], _∷_, _++_, append-nil, cons≢nil}
 use lib.ListN.{length, take, drop, length-append, take-append-drop}
 use lib.Seq.{take-append-le, take-append-seam}
 use Rattle.standard.specs.declared.Framing.{Framing}
+use Rattle.standard.specs.declared.Escapes.{Escapes}
 use Rattle.standard.specs.Messages.{among, checkOf}
 use Rattle.standard.specs.Framing.{startOf, frameOf}
 use Rattle.standard.specs.Judge.{Handed, unfinished, handing, judge}
@@ -28,36 +29,36 @@ neither true b e = e
 neither false b e = refl
 
 -- one part, which is unfinished, hands out nothing
-alone : (f : Framing) (l : List ℕ) → among (startOf f) l ≡ false → judge f (startOf f ∷ l) ≡ unfinished
-    → handedOf f (startOf f ∷ l) ≡ []
-alone f l a u =
+alone : (rule : Escapes) (f : Framing) (l : List ℕ) → among (startOf f) l ≡ false → judge rule f (startOf f ∷ l) ≡ unfinished
+    → handedOf rule f (startOf f ∷ l) ≡ []
+alone rule f l a u =
     let start = startOf f in
     let same = sym (append-nil l) in
     let whole : upToStart start l ≡ l = ap (upToStart start) same ∙ up-to-through start l [] a ∙ append-nil l in
     let none : partsOf start l ≡ [] = ap (partsOf start) same ∙ parts-through start l [] a in
     let one = ap₂ (λ (p : List ℕ) (ps : List (List ℕ)). (start ∷ p) ∷ ps) whole none in
-    ap (partsHand f) (parts-start start l ∙ one) ∙ rw u
+    ap (partsHand rule f) (parts-start start l ∙ one) ∙ rw u
 
 nil-front : (a b : List Handed) → a ++ b ≡ [] → a ≡ []
 nil-front [] b e = refl
 nil-front (h ∷ a) b e = absurd (cons≢nil e)
 
 -- a beginning of a stream that hands out nothing hands out nothing
-front-none : (f : Framing) (k : ℕ) (l : List ℕ) → handedOf f l ≡ [] → handedOf f (take k l) ≡ []
-front-none f k l e =
+front-none : (rule : Escapes) (f : Framing) (k : ℕ) (l : List ℕ) → handedOf rule f l ≡ [] → handedOf rule f (take k l) ≡ []
+front-none rule f k l e =
     let s : State = record { mode = Skipping f; held = [] } in
     let front = take k l in
-    nil-front (handedOf f front) (run (after s front) (drop k l))
-    (ap (λ (x : List Handed). x ++ run (after s front) (drop k l)) (sym (run-parts f [] front (tt, refl)))
-    ∙ sym (run-append s front (drop k l))
-    ∙ ap (run s) (take-append-drop k l)
-    ∙ run-parts f [] l (tt, refl)
+    nil-front (handedOf rule f front) (run rule (after rule s front) (drop k l))
+    (ap (λ (x : List Handed). x ++ run rule (after rule s front) (drop k l)) (sym (run-parts rule f [] front (tt, refl)))
+    ∙ sym (run-append rule s front (drop k l))
+    ∙ ap (run rule s) (take-append-drop k l)
+    ∙ run-parts rule f [] l (tt, refl)
     ∙ e)
 
-module _ (f : Framing) (m q : List ℕ) (good : checkOf m ≡ 0) (bytes : Bytes m) where
-  none-sooner : (k : ℕ) → k < length (frameOf f m) → handedOf f (take k (frameOf f m ++ q)) ≡ []
+module _ (rule : Escapes) (f : Framing) (m q : List ℕ) (good : checkOf m ≡ 0) (bytes : Bytes m) where
+  none-sooner : (k : ℕ) → k < length (frameOf f m) → handedOf rule f (take k (frameOf f m ++ q)) ≡ []
   none-sooner k h =
-      let w : FrameReads f m = frame-reads f m good bytes in
+      let w : FrameReads rule f m = frame-reads rule f m good bytes in
       let front = startOf f ∷ w .front in
       let size : length (frameOf f m) ≡ length front + 1 = ap length (w .is) ∙ length-append front (w .last ∷ []) in
       let clear : among (startOf f) (w .front) ≡ false =
@@ -66,20 +67,20 @@ module _ (f : Framing) (m q : List ℕ) (good : checkOf m ≡ 0) (bytes : Bytes 
       let begin : take k (frameOf f m ++ q) ≡ take k front =
       take-append-le k (frameOf f m) q (omega arith) ∙ ap (take k) (w .is)
       ∙ take-append-le k front (w .last ∷ []) (omega arith) in
-      ap (handedOf f) begin ∙ front-none f k front (alone f (w .front) clear (w .reads .before))
+      ap (handedOf rule f) begin ∙ front-none rule f k front (alone rule f (w .front) clear (w .reads .before))
 
-  uses : Uses f [] (frameOf f m ++ q) (length (frameOf f m)) (handing 0 m ∷ [])
+  uses : Uses rule f [] (frameOf f m ++ q) (length (frameOf f m)) (handing 0 m ∷ [])
   uses = record {
     within = simp length-append (omega arith);
-    verdict = ap (handedOf f) (take-append-seam (frameOf f m) q) ∙ write-then-read-one f m good bytes;
+    verdict = ap (handedOf rule f) (take-append-seam (frameOf f m) q) ∙ write-then-read-one rule f m good bytes;
     none-sooner = none-sooner;
     or-all = λ e. absurd (cons≢nil e);
   }
 
   -- WRITTEN, THEN READ by a fresh reader: the message, and exactly the frame's bytes used
-  pub fresh-reads : (let a = readOf (freshReader f) (frameOf f m ++ q) in
+  pub fresh-reads : (let a = readOf (freshReader rule f) (frameOf f m ++ q) in
       (a .used ≡ length (frameOf f m)) × (a .said ≡ handing 0 m ∷ []))
   fresh-reads =
-      let a = readOf (freshReader f) (frameOf f m ++ q) in
-      used-unique f [] (frameOf f m ++ q) (a .used) (length (frameOf f m)) (a .said)
+      let a = readOf (freshReader rule f) (frameOf f m ++ q) in
+      used-unique rule f [] (frameOf f m ++ q) (a .used) (length (frameOf f m)) (a .said)
       (handing 0 m ∷ []) (used-rule fresh (frameOf f m ++ q)) uses

@@ -17,6 +17,7 @@ use contract.Lifetimes.{Lfts}
 use denote.Triple.Clauses.{AtExit}
 use Rattle.standard.specs.declared.Framing.{Framing}
 use Rattle.standard.specs.declared.Framing.the-variants.{Binary, Ascii}
+use Rattle.standard.specs.declared.Escapes.the-variants.{Strict, Lenient}
 use Rattle.standard.specs.declared.Written.{Written}
 use Rattle.standard.specs.Messages.{longest}
 use Rattle.standard.specs.Replies.{replyOf}
@@ -41,10 +42,10 @@ use Rattle.nx584.specs.declared.CHearing.{CHearing}
 use Rattle.nx584.specs.declared.CWritten.{CWritten}
 use Rattle.nx584.specs.declared.CGroup.{CGroup}
 use Rattle.nx584.specs.declared.COverview.{COverview}
-use Rattle.nx584.specs.Boundary.{framingFor, modeFor, cReader, soundC, padded, CGiven, cRefused, cRead, cReading}
+use Rattle.nx584.specs.Boundary.{framingFor, escapesFor, modeFor, readerFor, cFresh, soundC, padded, CGiven, cRefused}
+use Rattle.nx584.specs.Boundary.{cTook, cRead, cReading}
 use Rattle.nx584.specs.Boundary.{cHeard, withReply, cHearing, cLeft, cWritten, cGroup, cOverview}
 use Rattle.nx584.specs.declared.CSending.{CSending}
-use Rattle.nx584.specs.Callers.{cFresh}
 use Rattle.nx584.specs.Line.{cAnswer}
 use Rattle.nx584.specs.Records.{cZone, cPartition, cSystem}
 use Rattle.nx584.proofs.InC.{read-refused, heard-refused}
@@ -61,23 +62,30 @@ binary-is-0 = refl
 pub ascii-is-any-other : (n : ℕ) → (n ≡ 0 → ⊥) → framingFor n ≡ Ascii
 ascii-is-any-other n h = rw (ne-eqb n 0 h)
 
--- a reader in numbers
+-- escapes 0 is strict, any other the old rule
+pub strict-is-0 : escapesFor 0 ≡ Strict
+strict-is-0 = refl
+
+pub lenient-is-any-other : (n : ℕ) → (n ≡ 0 → ⊥) → escapesFor n ≡ Lenient
+lenient-is-any-other n h = rw (ne-eqb n 0 h)
+
+-- a reader in numbers, as a strict one is made
 abbrev numbered : ℕ → ℕ → ℕ → ℕ → List ℕ → CReader
 numbered framing mode digit held bytes =
-    record { framing = framing; mode = mode; digit = digit; held = held; bytes = bytes }
+    record { framing = framing; mode = mode; digit = digit; held = held; bytes = bytes; escapes = 0 }
 
 -- the reader after a fresh one has read some bytes
 abbrev after : ℕ → List ℕ → CReader
-after framing bs = cReading (cRead (cFresh framing) bs) .reader
+after framing bs = cReading (cRead (cFresh Strict framing) bs) .reader
 
 abbrev zeros : List ℕ
 zeros = replicate (longest + 3) 0
 
 -- 0 skipping, 1 in a frame, 2 after a 7Dh
-pub fresh-skips : cFresh 0 ≡ numbered 0 0 0 0 zeros
+pub fresh-skips : cFresh Strict 0 ≡ numbered 0 0 0 0 zeros
 fresh-skips = refl
 
-pub fresh-skips-ascii : cFresh 1 ≡ numbered 1 0 0 0 zeros
+pub fresh-skips-ascii : cFresh Strict 1 ≡ numbered 1 0 0 0 zeros
 fresh-skips-ascii = refl
 
 pub start-opens : after 0 (0x7E ∷ []) ≡ numbered 0 1 0 0 zeros
@@ -105,6 +113,40 @@ digit-is-kept = refl
 pub byte-is-held : after 0 (0x7E ∷ 8 ∷ []) ≡ numbered 0 1 0 1 (8 ∷ replicate (longest + 2) 0)
 unfolding cRead soundC readOf scanOf stepOf
 byte-is-held = refl
+
+-- 15 at the byte after a 7Dh that needs none, and nothing of the two is held; the old rule takes it
+pub bad-escape-is-15 : cReading (cRead (cFresh Strict 0) (0x7E ∷ 8 ∷ 0x7D ∷ 0x5F ∷ 1 ∷ []))
+    ≡ record {
+      reader = numbered 0 0 0 0 (8 ∷ replicate (longest + 2) 0);
+      used = 4;
+      verdict = 15;
+      «type_byte» = 0;
+      length = 0;
+      message = replicate longest 0;
+    }
+unfolding cRead soundC readOf scanOf stepOf
+bad-escape-is-15 = refl
+
+pub lenient-takes-it : cReading (cRead (cFresh Lenient 0) (0x7E ∷ 8 ∷ 0x7D ∷ 0x5F ∷ [])) .reader .held ≡ 2
+unfolding cRead soundC readOf scanOf stepOf
+lenient-takes-it = refl
+
+-- every call hands the number of the rule back as it was
+pub escapes-stay : (c : CReader) (t bs : List ℕ)
+    → (cReading (cRead c bs) .reader .escapes ≡ c .escapes) × (cHearing (cHeard c t bs) .reader .escapes ≡ c .escapes)
+unfolding cRead cHeard
+escapes-stay c t bs = (of-read (soundC c), of-hear (isTable t) (soundC c))
+  where
+    of-read : (s : Bool) → cond s (cTook (c .escapes) (readOf (readerFor c) bs)) (cRefused c 12) .reader .escapes ≡ c .escapes
+    of-read true = refl
+    of-read false = refl
+
+    of-hear : (t s : Bool)
+        → cond t (cond s (cTook (c .escapes) (readOf (readerFor c) bs)) (cRefused c 12)) (cRefused c 11) .reader .escapes
+        ≡ c .escapes
+    of-hear true true = refl
+    of-hear true false = refl
+    of-hear false s = refl
 
 -- ---- an answer
 

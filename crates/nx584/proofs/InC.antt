@@ -52,7 +52,7 @@ pub c-sound : (c : CReader) → soundC c ≡ true → soundReader (readerFor c) 
 unfolding soundC
 c-sound c h = both-true (modeOk (c .mode) (c .digit)) (soundReader (readerFor c)) h .1
 
-pub read-took : (c : CReader) (bs : List ℕ) → soundC c ≡ true → cRead c bs ≡ cTook (readOf (readerFor c) bs)
+pub read-took : (c : CReader) (bs : List ℕ) → soundC c ≡ true → cRead c bs ≡ cTook (c .escapes) (readOf (readerFor c) bs)
 unfolding cRead
 read-took c bs h = rw h
 
@@ -78,9 +78,9 @@ took-fits r bs reader said h g =
     (omega arith, few-said said (readOf r bs .said) (g .verdict) (read-short r bs))
 
 -- an answer of code, in numbers
-pub took-c : (a : Given) (reader : Reader) (used : ℕ) (said : Said) → Gives reader said a → used ≡ a .used
-    → record { reader = cReader reader; used = used; said = handedIn said (reader .bytes) } ≡ cTook a
-took-c a reader used said g u = rw (g .handed, u, g .next)
+pub took-c : (escapes : ℕ) (a : Given) (reader : Reader) (used : ℕ) (said : Said) → Gives reader said a → used ≡ a .used
+    → record { reader = cReader escapes reader; used = used; said = handedIn said (reader .bytes) } ≡ cTook escapes a
+took-c escapes a reader used said g u = rw (g .handed, u, g .next)
 
 -- ---- what `nx584_hear` answers
 

@@ -3,6 +3,7 @@
 use Prim.Native.Nat.{ℕ, _+_, _-_, _≤_}
 use native.Mathlib.Omega.{arith}
 use mathlib.Core.Path.{_≡_, refl, sym, ap, _∙_}
+use mathlib.Core.Logic.{_⊎_, inl, inr}
 use mathlib.Core.Bool.{Bool, true, false, cond}
 use mathlib.Core.List.{List, [], _∷_, map, head-eq-of-cons-eq, cons≢nil, nil≢cons}
 use lib.Dec.{eqb}
@@ -14,6 +15,7 @@ use Rattle.standard.specs.declared.Verdict.{Verdict}
 use Rattle.standard.specs.Messages.{longest}
 use Rattle.standard.specs.Judge.{Handed, verdictFor, verdictsIn, handedIn}
 use Rattle.standard.specs.Table.{tableAfter, appliedTo}
+use Rattle.standard.proofs.Refusals.{no-refusal}
 use Rattle.reader.specs.declared.Reader.{Reader}
 use Rattle.reader.specs.Read.{soundReader, readOf, Reads}
 use Rattle.reader.proofs.State.Arrays.{read-unsound}
@@ -39,7 +41,11 @@ number-said (Gave v) (h ∷ hs) e = ap (λ (w : Verdict). w .number) (head-eq-of
 sound-other : (r : Reader) (bs : List ℕ) → soundReader r ≡ true → (hs : List Handed) → readOf r bs .said ≡ hs
     → numberSaid hs ≡ 12 → ⊥
 sound-other r bs h [] e z = omega arith
-sound-other r bs h (g ∷ hs) e z = let few = sound-verdict r bs g hs h e in omega arith
+sound-other r bs h (g ∷ hs) e z = not-12 (no-refusal (r .escapes) (sound-verdict r bs g hs h e))
+  where
+    not-12 : g .verdict ≤ 8 ⊎ (g .verdict ≡ 15) → ⊥
+    not-12 (inl few) = omega arith
+    not-12 (inr fifteen) = omega arith
 
 module _ (r : Reader) (bs : List ℕ) (reader : Reader) (used : ℕ) (said : Said) (w : Reads r bs reader used said) where
   number : numbersSaid said .number ≡ numberSaid (readOf r bs .said)
@@ -68,7 +74,7 @@ module _ (r : Reader) (bs : List ℕ) (reader : Reader) (used : ℕ) (said : Sai
 
 -- a reader that is not sound
 pub scans-refused : (c : CReader) (bs : List ℕ) → length (c .bytes) ≡ longest + 3 → soundC c ≡ false
-    → CScans c bs (scannedAs (c .framing) (c .mode) (c .digit) (c .held) 12) (c .bytes)
+    → CScans c bs (scannedAs (c .framing) (c .mode) (c .digit) (c .held) (c .escapes) 12) (c .bytes)
 scans-refused c bs size h =
     record { says = ap cReading (sym (read-refused c bs h)); few = omega arith; sized = size }
 
@@ -79,6 +85,7 @@ scannedWith c used v = record {
   mode = c .mode;
   digit = c .digit;
   held = c .held;
+  escapes = c .escapes;
   used = used;
   verdict = v .number;
   «type_byte» = v .«type_byte»;
@@ -86,11 +93,12 @@ scannedWith c used v = record {
 }
 
 -- with or without a verdict, of which the message stands in the frame's bytes
-said-scanned : (reader : Reader) (used : ℕ) (said : Said) → lengthSaid said + 1 ≤ length (reader .bytes)
-    → readingIn (scannedWith (cReader reader) used (numbersSaid said)) (reader .bytes)
-    ≡ cReading (record { reader = cReader reader; used = used; said = handedIn said (reader .bytes) })
-said-scanned reader used Silent h = refl
-said-scanned reader used (Gave v) h =
+said-scanned : (escapes : ℕ) (reader : Reader) (used : ℕ) (said : Said)
+    → lengthSaid said + 1 ≤ length (reader .bytes)
+    → readingIn (scannedWith (cReader escapes reader) used (numbersSaid said)) (reader .bytes)
+    ≡ cReading (record { reader = cReader escapes reader; used = used; said = handedIn said (reader .bytes) })
+said-scanned escapes reader used Silent h = refl
+said-scanned escapes reader used (Gave v) h =
     let rest = drop 1 (reader .bytes) in
     let room : v .length ≤ length rest = omega (arith, length-drop 1 (reader .bytes)) in
     let size : length (take (v .length) rest) ≡ v .length = length-take-le (v .length) rest room in
@@ -100,14 +108,14 @@ said-scanned reader used (Gave v) h =
 pub scans-sound : (c : CReader) (bs : List ℕ) (reader : Reader) (used : ℕ) (said : Said) → soundC c ≡ true
     → length (reader .bytes) ≡ longest + 3
     → Reads (readerFor c) bs reader used said
-    → CScans c bs (scannedWith (cReader reader) used (numbersSaid said)) (reader .bytes)
+    → CScans c bs (scannedWith (cReader (c .escapes) reader) used (numbersSaid said)) (reader .bytes)
 scans-sound c bs reader used said h size w =
     let fits = took-fits (readerFor c) bs reader said (c-sound c h) (w .gives) .1 in
     record {
       says =
-          said-scanned reader used said (omega arith)
+          said-scanned (c .escapes) reader used said (omega arith)
           ∙ ap cReading
-          (took-c (readOf (readerFor c) bs) reader used said (w .gives) (w .uses) ∙ sym (read-took c bs h));
+          (took-c (c .escapes) (readOf (readerFor c) bs) reader used said (w .gives) (w .uses) ∙ sym (read-took c bs h));
       few = rw (length-said said) fits;
       sized = size;
     }

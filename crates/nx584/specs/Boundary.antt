@@ -10,6 +10,8 @@ use lib.ListN.{length, replicate}
 use lib.Ieee.{nan}
 use Rattle.standard.specs.declared.Framing.{Framing}
 use Rattle.standard.specs.declared.Framing.the-variants.{Binary, Ascii}
+use Rattle.standard.specs.declared.Escapes.{Escapes}
+use Rattle.standard.specs.declared.Escapes.the-variants.{Strict, Lenient}
 use Rattle.standard.specs.Words.{laid}
 use Rattle.standard.specs.Messages.{longest}
 use Rattle.standard.specs.Judge.{Handed, handing}
@@ -24,7 +26,7 @@ use Rattle.reader.specs.declared.Mode.{Mode}
 use Rattle.reader.specs.declared.Mode.the-variants.{Skipping, Open, Escape, Digit}
 use Rattle.reader.specs.declared.Reader.{Reader}
 use Rattle.reader.specs.Step.{framingOf}
-use Rattle.reader.specs.Read.{Given, soundReader, readOf}
+use Rattle.reader.specs.Read.{Given, soundReader, freshReader, readOf}
 use Rattle.host.specs.Hear.{replyTo}
 use Rattle.nx584.specs.declared.CReader.{CReader}
 use Rattle.nx584.specs.declared.CReading.{CReading}
@@ -42,6 +44,14 @@ framingFor n = cond (eqb n 0) Binary Ascii
 abbrev pub framingNumber : Framing → ℕ
 framingNumber Binary = 0
 framingNumber Ascii = 1
+
+-- escapes 0 is the strict rule, any other number the old one
+abbrev pub escapesFor : ℕ → Escapes
+escapesFor n = cond (eqb n 0) Strict Lenient
+
+abbrev pub escapesNumber : Escapes → ℕ
+escapesNumber Strict = 0
+escapesNumber Lenient = 1
 
 -- 0 skipping, 1 in a frame, 2 after a 7Dh, 3 a digit pending
 abbrev pub modeNumber : Mode → ℕ
@@ -69,16 +79,23 @@ readerFor c = record {
   mode = modeFor (framingFor (c .framing)) (c .mode) (c .digit);
   held = c .held;
   bytes = c .bytes;
+  escapes = escapesFor (c .escapes);
 }
 
-abbrev pub cReader : Reader → CReader
-cReader r = record {
+-- the number of its rule is the caller's own, and is handed back as it was
+abbrev pub cReader : ℕ → Reader → CReader
+cReader escapes r = record {
   framing = framingNumber (framingOf (r .mode));
   mode = modeNumber (r .mode);
   digit = digitNumber (r .mode);
   held = r .held;
   bytes = r .bytes;
+  escapes = escapes;
 }
+
+-- what `nx584_fresh` and `nx584_fresh_lenient` answer
+abbrev pub cFresh : Escapes → ℕ → CReader
+cFresh rule framing = cReader (escapesNumber rule) (freshReader rule (framingFor framing))
 
 -- a mode above 3 is unsound, and so is mode 3 with a digit above 15, in both framings; the rest is document 01's
 -- soundness
@@ -137,12 +154,12 @@ pub record CGiven : Type 0 where
 abbrev pub cRefused : CReader → ℕ → CGiven
 cRefused c number = record { reader = c; used = 0; said = handing number [] ∷ [] }
 
-abbrev pub cTook : Given → CGiven
-cTook a = record { reader = cReader (a .reader); used = a .used; said = a .said }
+abbrev pub cTook : ℕ → Given → CGiven
+cTook escapes a = record { reader = cReader escapes (a .reader); used = a .used; said = a .said }
 
 -- a read
 unfoldable pub cRead : CReader → List ℕ → CGiven
-cRead c bs = cond (soundC c) (cTook (readOf (readerFor c) bs)) (cRefused c 12)
+cRead c bs = cond (soundC c) (cTook (c .escapes) (readOf (readerFor c) bs)) (cRefused c 12)
 
 -- a read with a table: 11, then 12
 unfoldable pub cHeard : CReader → List ℕ → List ℕ → CGiven

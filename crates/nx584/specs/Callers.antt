@@ -7,13 +7,12 @@ use mathlib.Core.List.{List, [], _∷_, _++_}
 use lib.Dec.{eqb}
 use lib.ListN.{length, take, drop}
 use Rattle.standard.specs.Judge.{Handed}
-use Rattle.reader.specs.Read.{freshReader}
 use Rattle.reader.specs.Calls.{joined, handedBefore}
 use Rattle.host.specs.Hearings.{Heard, noCall, alsoHeard}
 use Rattle.nx584.specs.declared.CReader.{CReader}
 use Rattle.nx584.specs.declared.CReading.{CReading}
 use Rattle.nx584.specs.declared.CHearing.{CHearing}
-use Rattle.nx584.specs.Boundary.{framingFor, cReader, cRead, cReading, cHeard, cHearing, cLeft, CHears}
+use Rattle.nx584.specs.Boundary.{cRead, cReading, cHeard, cHearing, cLeft, CHears}
 
 -- ---- what an answer says
 
@@ -27,10 +26,6 @@ readingHands a = handedBy (a .verdict) (a .«type_byte») (a .length) (a .messag
 
 abbrev pub hearingHands : CHearing → List Handed
 hearingHands a = handedBy (a .verdict) (a .«type_byte») (a .length) (a .message)
-
--- what `nx584_fresh` answers
-abbrev pub cFresh : ℕ → CReader
-cFresh framing = cReader (freshReader (framingFor framing))
 
 -- ---- callers of `nx584_read`
 

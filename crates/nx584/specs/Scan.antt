@@ -10,12 +10,13 @@ use Rattle.nx584.specs.declared.CScanned.{CScanned}
 use Rattle.nx584.specs.Boundary.{padded, cReading, cRead}
 
 -- numbers that stay, with a verdict that hands out nothing
-abbrev pub scannedAs : ℕ → ℕ → ℕ → ℕ → ℕ → CScanned
-scannedAs framing mode digit held number = record {
+abbrev pub scannedAs : ℕ → ℕ → ℕ → ℕ → ℕ → ℕ → CScanned
+scannedAs framing mode digit held escapes number = record {
   framing = framing;
   mode = mode;
   digit = digit;
   held = held;
+  escapes = escapes;
   used = 0;
   verdict = number;
   «type_byte» = 0;
@@ -24,7 +25,14 @@ scannedAs framing mode digit held number = record {
 
 -- the next reader, with the frame's bytes
 abbrev pub readerIn : CScanned → List ℕ → CReader
-readerIn s bytes = record { framing = s .framing; mode = s .mode; digit = s .digit; held = s .held; bytes = bytes }
+readerIn s bytes = record {
+  framing = s .framing;
+  mode = s .mode;
+  digit = s .digit;
+  held = s .held;
+  bytes = bytes;
+  escapes = s .escapes;
+}
 
 -- the message stands in the frame's bytes after the length byte
 abbrev pub messageIn : CScanned → List ℕ → List ℕ

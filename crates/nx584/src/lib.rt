@@ -3,7 +3,7 @@ use commands::Ended;
 use commands::Sending;
 use commands::Slot;
 use reader::Mode;
-use reader::Reader;
+use standard::Escapes;
 use standard::Framing;
 use standard::Group;
 use standard::Said;
@@ -18,20 +18,20 @@ ghost use Prim.Native.Nat.{_+_, _≤_};
 ghost use lib.Ieee.{nan};
 ghost use lib.ListN.{length, take, drop};
 ghost use lib.ListN.{length as ListN·length};
+ghost use Rattle.standard.specs.declared.Escapes.the-variants.{Strict, Lenient};
 ghost use Rattle.standard.specs.Messages.{longest, longestKnown};
 ghost use Rattle.standard.specs.Replies.{replyOf};
 ghost use Rattle.standard.specs.Table.{Applied, appliedTo};
 ghost use Rattle.standard.specs.Overview.{seenOf, shareNumber, groupValues};
 ghost use Rattle.reader.specs.Step.{framingOf};
-ghost use Rattle.reader.specs.Read.{freshReader};
 ghost use Rattle.commands.specs.Commands.{endedNumber, answerOf, after, takeOf, tickOf, toldOf};
 ghost use Rattle.nx584.specs.Line.{cAnswer};
 ghost use Rattle.nx584.specs.Records.{cZone, cPartition, cSystem};
-ghost use Rattle.nx584.specs.Boundary.{framingFor, framingNumber, modeNumber, digitNumber, pendingFor, modeFor, cReader, modeOk, numbersSaid, padded, cRefused, cReading, withReply, cHearing, cRead, CHears, CWrote, cGroup, cOverview};
+ghost use Rattle.nx584.specs.Boundary.{framingFor, escapesFor, escapesNumber, framingNumber, modeNumber, digitNumber, pendingFor, modeFor, cFresh, modeOk, numbersSaid, padded, cRefused, cReading, withReply, cHearing, cRead, CHears, CWrote, cGroup, cOverview};
 ghost use Rattle.nx584.specs.Scan.{scannedAs, readerIn, tookIn, CScans};
 
 // NX584_VERSION: of the header that this library goes with.
-const VERSION: u32 = 3;
+const VERSION: u32 = 4;
 
 // NX584_LONGEST: the most bytes of a message that is read.
 const LONGEST: usize = standard::LONGEST;
@@ -39,8 +39,13 @@ const LONGEST: usize = standard::LONGEST;
 // The most bytes that a reader holds: the length, the longest message and two sums.
 const MOST: usize = LONGEST + 3;
 
+// NX584_STRICT and NX584_LENIENT.
+const STRICT: u8 = 0;
+
+const LENIENT: u8 = 1;
+
 // A reader: framing 0 is binary, any other ASCII; mode 0 skipping, 1 in a frame, 2 after a 7Dh,
-// 3 a digit pending.
+// 3 a digit pending; escapes 0 is strict, any other the old rule.
 #[repr(C)]
 pub struct CReader {
     pub framing: u8,
@@ -48,6 +53,7 @@ pub struct CReader {
     pub digit: u8,
     pub held: u16,
     pub bytes: [u8; MOST],
+    pub escapes: u8,
 }
 
 // A read: the verdict or 255, the type byte or 0, the message and zeros.
@@ -67,6 +73,7 @@ struct CScanned {
     mode: u8,
     digit: u8,
     held: u16,
+    escapes: u8,
     used: usize,
     verdict: u8,
     type_byte: u8,
@@ -155,6 +162,25 @@ fn framing_for(framing: u8) -> Framing
     }
 }
 
+fn escapes_for(escapes: u8) -> Escapes
+    ensures { λ r. ⌜ r ≡ escapesFor escapes ⌝ }
+{
+    if escapes == STRICT {
+        Escapes::Strict
+    } else {
+        Escapes::Lenient
+    }
+}
+
+fn escapes_number(escapes: Escapes) -> u8
+    ensures { λ r. ⌜ r ≡ escapesNumber escapes ⌝ }
+{
+    match escapes {
+        Escapes::Strict => STRICT,
+        Escapes::Lenient => LENIENT,
+    }
+}
+
 fn framing_number(framing: Framing) -> u8
     ensures { λ r. ⌜ r ≡ framingNumber framing ⌝ }
 {
@@ -228,21 +254,6 @@ fn mode_for(framing: Framing, mode: u8, digit: u8) -> Mode
     }
 }
 
-fn c_reader(reader: Reader) -> CReader
-    requires { ⌜ reader .held ≤ 65535 ⌝ }
-    ensures { λ r. ⌜ r ≡ cReader reader ⌝ }
-{
-    let mode = reader.mode;
-    let bytes = reader.bytes;
-    CReader {
-        framing: framing_of(mode),
-        mode: mode_number(mode),
-        digit: digit_number(mode),
-        held: reader.held as u16,
-        bytes: bytes,
-    }
-}
-
 // A share that was not heard: C has no case without a number, and a NaN at least poisons sums.
 fn share_number(share: Share) -> f64
     ensures { λ r. ⌜ r ≡ Option·getD (shareNumber share) nan ⌝ }
@@ -292,14 +303,15 @@ fn mode_ok(mode: u8, digit: u8) -> bool
 }
 
 // A state that is not sound: 12, and its numbers as they were.
-fn not_sound(framing: u8, mode: u8, digit: u8, held: u16) -> CScanned
-    ensures { λ r. ⌜ r ≡ scannedAs framing mode digit held 12 ⌝ }
+fn not_sound(framing: u8, mode: u8, digit: u8, held: u16, escapes: u8) -> CScanned
+    ensures { λ r. ⌜ r ≡ scannedAs framing mode digit held escapes 12 ⌝ }
 {
     CScanned {
         framing,
         mode,
         digit,
         held,
+        escapes,
         used: 0,
         verdict: 12,
         type_byte: 0,
@@ -323,26 +335,35 @@ fn numbers(said: Said) -> Verdict
 
 // A read by numbers, with the frame's bytes in lent memory: a reader is many bytes, and each copy of
 // it would cost a call of one byte as much as the byte.
-fn scan_c(framing: u8, mode: u8, digit: u8, held: u16, frame: &mut [u8], bytes: &[u8]) -> CScanned
+fn scan_c(
+    framing: u8,
+    mode: u8,
+    digit: u8,
+    held: u16,
+    escapes: u8,
+    frame: &mut [u8],
+    bytes: &[u8],
+) -> CScanned
     requires { ⌜ length (now frame) ≡ longest + 3 ⌝ }
-    ensures { λ r. ⌜ CScans (record { framing = framing; mode = mode; digit = digit; held = held; bytes = now (frame .entry) }) (now (bytes .entry)) r (now (frame .exit)) ⌝ }
+    ensures { λ r. ⌜ CScans (record { framing = framing; mode = mode; digit = digit; held = held; bytes = now (frame .entry); escapes = escapes }) (now (bytes .entry)) r (now (frame .exit)) ⌝ }
 {
     if !mode_ok(mode, digit) {
-        return not_sound(framing, mode, digit, held);
+        return not_sound(framing, mode, digit, held, escapes);
     }
     let from = mode_for(framing_for(framing), mode, digit);
-    let scanned = reader::scan(from, held as usize, frame, bytes);
+    let scanned = reader::scan(escapes_for(escapes), from, held as usize, frame, bytes);
     let next = scanned.mode;
     let said = scanned.said;
     let verdict = numbers(said);
     if verdict.number == 12 {
-        return not_sound(framing, mode, digit, held);
+        return not_sound(framing, mode, digit, held, escapes);
     }
     CScanned {
         framing: framing_of(next),
         mode: mode_number(next),
         digit: digit_number(next),
         held: scanned.held as u16,
+        escapes,
         used: scanned.used,
         verdict: verdict.number,
         type_byte: verdict.type_byte,
@@ -359,6 +380,7 @@ fn reader_in(scanned: CScanned, bytes: [u8; MOST]) -> CReader
         digit: scanned.digit,
         held: scanned.held,
         bytes,
+        escapes: scanned.escapes,
     }
 }
 
@@ -417,12 +439,34 @@ fn store(table: &mut [u8], verdict: u8, length: u8, frame: &[u8])
     }
 }
 
-// A reader that has read nothing.
+// `Reader::fresh` and `Reader::fresh_lenient` in numbers.
+fn fresh(escapes: Escapes, framing: u8) -> CReader
+    ensures { λ r. ⌜ r ≡ cFresh escapes framing ⌝ }
+{
+    CReader {
+        framing: framing_number(framing_for(framing)),
+        mode: 0,
+        digit: 0,
+        held: 0,
+        bytes: [0u8; MOST],
+        escapes: escapes_number(escapes),
+    }
+}
+
+// A reader that has read nothing, with the strict rule of escapes.
 #[no_mangle]
 pub extern "C" fn nx584_fresh(framing: u8) -> CReader
-    ensures { λ r. ⌜ r ≡ cReader (freshReader (framingFor framing)) ⌝ }
+    ensures { λ r. ⌜ r ≡ cFresh Strict framing ⌝ }
 {
-    c_reader(Reader::fresh(framing_for(framing)))
+    fresh(Escapes::Strict, framing)
+}
+
+// The same with the old rule.
+#[no_mangle]
+pub extern "C" fn nx584_fresh_lenient(framing: u8) -> CReader
+    ensures { λ r. ⌜ r ≡ cFresh Lenient framing ⌝ }
+{
+    fresh(Escapes::Lenient, framing)
 }
 
 // Up to and including the first verdict's byte, or to the end.
@@ -436,6 +480,7 @@ pub extern "C" fn nx584_read(reader: CReader, bytes: &[u8]) -> CReading
         reader.mode,
         reader.digit,
         reader.held,
+        reader.escapes,
         &mut frame,
         bytes,
     );
@@ -457,6 +502,7 @@ pub extern "C" fn nx584_step(reader: CReader, byte: u8) -> CReading
         reader.mode,
         reader.digit,
         reader.held,
+        reader.escapes,
         &mut frame,
         &one,
     );
@@ -538,6 +584,7 @@ pub extern "C" fn nx584_hear(reader: CReader, table: &mut [u8], bytes: &[u8]) ->
         reader.mode,
         reader.digit,
         reader.held,
+        reader.escapes,
         &mut frame,
         bytes,
     );
@@ -659,7 +706,7 @@ pub extern "C" fn nx584_told(slots: &mut [Slot], message: &[u8]) -> CSending
 // To compare with NX584_VERSION.
 #[no_mangle]
 pub extern "C" fn nx584_version() -> u32
-    ensures { λ r. ⌜ r ≡ 3 ⌝ }
+    ensures { λ r. ⌜ r ≡ 4 ⌝ }
 {
     VERSION
 }

@@ -18,6 +18,8 @@ use Rattle.reader.specs.Read.{Given, readOf, Gives, Reads, Steps}
 use Rattle.reader.proofs.State.Handing.{saidFor, one-verdict, handed-from-verdict}
 use Rattle.reader.proofs.Reader.fresh.Kinds as fresh-kinds
 use Rattle.reader.proofs.Reader.fresh.Reads as fresh
+use Rattle.reader.proofs.Reader.fresh_lenient.Kinds as lenient-kinds
+use Rattle.reader.proofs.Reader.fresh_lenient.Reads as lenient
 use Rattle.reader.proofs.Reader.sound.Kinds as sound-kinds
 use Rattle.reader.proofs.Reader.sound.Reads as sound
 use Rattle.reader.proofs.Reader.step.Kinds as step-kinds
@@ -32,6 +34,11 @@ use Rattle.reader.proofs.scan.Reads as scan
 pub fresh-unique : (κs : Lfts 0) (a : Dens κs fresh-kinds.ps) (e : AtExit (endedOf 0 fresh-kinds.ps fresh-kinds.r) κs)
     (x y : resT fresh-kinds.r κs .Denot) → fresh.Post κs a x e → fresh.Post κs a y e → x ≡ y
 fresh-unique κs a e x y p q = p ∙ sym q
+
+pub fresh-lenient-unique : (κs : Lfts 0) (a : Dens κs lenient-kinds.ps)
+    (e : AtExit (endedOf 0 lenient-kinds.ps lenient-kinds.r) κs)
+    (x y : resT lenient-kinds.r κs .Denot) → lenient.Post κs a x e → lenient.Post κs a y e → x ≡ y
+fresh-lenient-unique κs a e x y p q = p ∙ sym q
 
 pub sound-unique : (κs : Lfts 0) (a : Dens κs sound-kinds.ps) (e : AtExit (endedOf 0 sound-kinds.ps sound-kinds.r) κs)
     (x y : resT sound-kinds.r κs .Denot) → sound.Post κs a x e → sound.Post κs a y e → x ≡ y
@@ -70,7 +77,7 @@ scanned s used = record { mode = s .reader .mode; held = s .reader .held; used =
 
 pub scan-unique : (κs : Lfts 2) (a : Dens κs scan-kinds.ps) (e e′ : AtExit (endedOf 2 scan-kinds.ps scan-kinds.r) κs)
     (x y : resT scan-kinds.r κs .Denot) → scan.Post κs a x e → scan.Post κs a y e′
-    → (x ≡ y) × (now (e .1 .1 .0) ≡ now (e′ .1 .1 .0))
+    → (x ≡ y) × (now (e .1 .1 .1 .0) ≡ now (e′ .1 .1 .1 .0))
 scan-unique κs a e e′ x y p q =
     let same = gives-same (p .gives) (q .gives) in (
       ap₂ scanned (ap₂ stepped (same .reader) (same .said)) (p .uses ∙ sym (q .uses)),

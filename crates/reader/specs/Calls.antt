@@ -6,6 +6,7 @@ use mathlib.Core.List.{List, [], _∷_, _++_}
 use lib.ListN.{length, take, drop}
 use Rattle.standard.specs.declared.Framing.{Framing}
 use Rattle.standard.specs.declared.Framing.the-variants.{Binary, Ascii}
+use Rattle.standard.specs.declared.Escapes.{Escapes}
 use Rattle.standard.specs.Framing.{startOf, digit, coding}
 use Rattle.standard.specs.Judge.{Handed}
 use Rattle.standard.specs.Stream.{handedOf}
@@ -44,12 +45,12 @@ pub data Calls : Reader → List (List ℕ) → List Handed → Type 0 where
       → Calls (readOf r bs .reader) again hs → Calls r (bs ∷ reads) (readOf r bs .said ++ hs)
 
 -- the readers met from a fresh one, with all the bytes that the reads have used
-pub data Reached (f : Framing) : List ℕ → Reader → Type 0 where
-  fresh : Reached f [] (freshReader f)
-  read : {stream : List ℕ} {r : Reader} (bs : List ℕ) → Reached f stream r
-      → Reached f (stream ++ take (readOf r bs .used) bs) (readOf r bs .reader)
+pub data Reached (rule : Escapes) (f : Framing) : List ℕ → Reader → Type 0 where
+  fresh : Reached rule f [] (freshReader rule f)
+  read : {stream : List ℕ} {r : Reader} (bs : List ℕ) → Reached rule f stream r
+      → Reached rule f (stream ++ take (readOf r bs .used) bs) (readOf r bs .reader)
 
--- a stream that leads to a mode and the bytes held: none between frames; in a frame its start, those bytes as they are
+-- a stream that leads to a mode and the bytes held, by either rule of escapes: none between frames; in a frame its start, those bytes as they are
 -- sent, and what is pending
 abbrev pub leadTo : Mode → List ℕ → List ℕ
 leadTo (Skipping f) held = []
@@ -62,15 +63,15 @@ abbrev pub streamTo : Reader → List ℕ
 streamTo r = leadTo (r .mode) (stateOf r .held)
 
 -- a reader that a stream leads to, in this mode and with these bytes held
-pub record Meets (f : Framing) (stream : List ℕ) (s : State) : Type 0 where
+pub record Meets (rule : Escapes) (f : Framing) (stream : List ℕ) (s : State) : Type 0 where
   pub reader : Reader
-  pub reached : Reached f stream reader
+  pub reached : Reached rule f stream reader
   pub same : stateOf reader ≡ s
 
 -- the used-byte rule, from the bytes: after a stream, a read uses the fewest bytes that give the stream one verdict
 -- more, and says that verdict; or it uses all, and the stream has no verdict more
-pub record Uses (f : Framing) (stream bs : List ℕ) (used : ℕ) (said : List Handed) : Type 0 where
+pub record Uses (rule : Escapes) (f : Framing) (stream bs : List ℕ) (used : ℕ) (said : List Handed) : Type 0 where
   pub within : used ≤ length bs
-  pub verdict : handedOf f (stream ++ take used bs) ≡ handedOf f stream ++ said
-  pub none-sooner : (k : ℕ) → k < used → handedOf f (stream ++ take k bs) ≡ handedOf f stream
+  pub verdict : handedOf rule f (stream ++ take used bs) ≡ handedOf rule f stream ++ said
+  pub none-sooner : (k : ℕ) → k < used → handedOf rule f (stream ++ take k bs) ≡ handedOf rule f stream
   pub or-all : said ≡ [] → used ≡ length bs

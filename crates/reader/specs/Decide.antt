@@ -8,6 +8,7 @@ use mathlib.Core.List.{List, [], _∷_, _++_}
 use lib.Dec.{eqb}
 use lib.ListN.{length, getD}
 use Rattle.standard.specs.declared.Framing.{Framing}
+use Rattle.standard.specs.declared.Escapes.{Escapes}
 use Rattle.standard.specs.Framing.{startOf}
 use Rattle.standard.specs.Judge.{Handed, handing}
 use Rattle.standard.specs.Stream.{upToStart}
@@ -24,8 +25,8 @@ use Rattle.reader.specs.Step.{Step, ends, opens, stepOf}
 -- ---- steps, by the bytes held
 
 -- one byte, in a mode
-abbrev pub stepIn : Mode → ℕ → List ℕ → Step
-stepIn mode b held = stepOf (record { mode = mode; held = held }) b
+abbrev pub stepIn : Escapes → Mode → ℕ → List ℕ → Step
+stepIn rule mode b held = stepOf rule (record { mode = mode; held = held }) b
 
 -- a start byte, in a mode
 abbrev pub opensIn : Mode → List ℕ → Step

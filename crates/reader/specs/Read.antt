@@ -7,6 +7,7 @@ use mathlib.Core.List.{List, [], _∷_, map}
 use lib.Dec.{eqb}
 use lib.ListN.{length, getD, take, replicate}
 use Rattle.standard.specs.declared.Framing.{Framing}
+use Rattle.standard.specs.declared.Escapes.{Escapes}
 use Rattle.standard.specs.declared.Said.{Said}
 use Rattle.standard.specs.Words.{laid}
 use Rattle.standard.specs.Messages.{longest}
@@ -28,9 +29,9 @@ abbrev pub readOn : List Handed → Step → Read → Read
 readOn [] first later = record { used = suc (later .used); next = later .next; said = later .said; kept = later .kept }
 readOn (h ∷ hs) first later = record { used = 1; next = first .next; said = h ∷ []; kept = first .kept }
 
-unfoldable pub scanOf : State → List ℕ → Read
-scanOf s [] = record { used = 0; next = s; said = []; kept = s .held }
-scanOf s (b ∷ bs) = readOn (stepOf s b .said) (stepOf s b) (scanOf (stepOf s b .next) bs)
+unfoldable pub scanOf : Escapes → State → List ℕ → Read
+scanOf rule s [] = record { used = 0; next = s; said = []; kept = s .held }
+scanOf rule s (b ∷ bs) = readOn (stepOf rule s b .said) (stepOf rule s b) (scanOf rule (stepOf rule s b .next) bs)
 
 -- ---- a reader as code has it
 
@@ -41,13 +42,20 @@ stateOf r = record { mode = r .mode; held = take (r .held) (r .bytes) }
 abbrev pub soundReader : Reader → Bool
 soundReader r = soundWith (r .mode) (r .held) (getD (r .bytes) 0 0)
 
--- a reader that has seen nothing; its array has room for the length, the longest message and two sums
-abbrev pub freshReader : Framing → Reader
-freshReader f = record { mode = Skipping f; held = 0; bytes = replicate (longest + 3) 0 }
+-- a reader that has seen nothing, with this rule of escapes; its array has room for the length, the longest message and
+-- two sums
+abbrev pub freshReader : Escapes → Framing → Reader
+freshReader rule f = record { mode = Skipping f; held = 0; bytes = replicate (longest + 3) 0; escapes = rule }
 
--- the reader after a read or a byte: the frame's bytes stand at the beginning of the array, and its other bytes stay
+-- the reader after a read or a byte: the frame's bytes stand at the beginning of the array, its other bytes stay, and so
+-- does its rule
 abbrev pub readerAfter : Reader → State → List ℕ → Reader
-readerAfter r next kept = record { mode = next .mode; held = length (next .held); bytes = laid (r .bytes) 0 kept }
+readerAfter r next kept = record {
+  mode = next .mode;
+  held = length (next .held);
+  bytes = laid (r .bytes) 0 kept;
+  escapes = r .escapes;
+}
 
 pub record Given : Type 0 where
   pub reader : Reader
@@ -63,7 +71,7 @@ readFrom r read = record { reader = readerAfter r (read .next) (read .kept); use
 
 -- THE ANSWER of a read, from any reader
 unfoldable pub readOf : Reader → List ℕ → Given
-readOf r bs = cond (soundReader r) (readFrom r (scanOf (stateOf r) bs)) (notSound r)
+readOf r bs = cond (soundReader r) (readFrom r (scanOf (r .escapes) (stateOf r) bs)) (notSound r)
 
 -- two answers one after the other, by what the first, of one byte, said: that one where it gave a verdict
 abbrev pub thenRead : List Handed → Given → Given → Given

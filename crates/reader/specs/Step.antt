@@ -9,8 +9,9 @@ use lib.Dec.{eqb, leb, ltb}
 use lib.ListN.{length}
 use Rattle.standard.specs.declared.Framing.{Framing}
 use Rattle.standard.specs.declared.Framing.the-variants.{Binary, Ascii}
+use Rattle.standard.specs.declared.Escapes.{Escapes}
 use Rattle.standard.specs.Messages.{lengthOk}
-use Rattle.standard.specs.Framing.{startOf, valueOf}
+use Rattle.standard.specs.Framing.{startOf, mayFollow, valueOf}
 use Rattle.standard.specs.Judge.{Handed, handing, wholeOf}
 use Rattle.reader.specs.declared.Mode.{Mode}
 use Rattle.reader.specs.declared.Mode.the-variants.{Skipping, Open, Escape, Digit}
@@ -33,7 +34,7 @@ isOpen (Open f) = true
 isOpen Escape = true
 isOpen (Digit d) = true
 
--- ---- soundness
+-- ---- soundness, which no rule of escapes bears on
 
 -- "at most L + 2 recovered bytes in binary, L + 3 in ASCII (the stop is then due and no digit pending)"
 abbrev pub beyondLength : Mode → ℕ
@@ -105,14 +106,19 @@ takesCharacter (L ∷ rest) b =
     (ends Ascii (wholeOf ((not (eqb b 0x0D), 3) ∷ []) L rest) (L ∷ rest))
     (takesDigit none (L ∷ rest) (valueOf b))
 
+-- a byte after a 7Dh: "15 bad escape, .. before 4 at the same byte"
+abbrev pub takesEscaped : Escapes → List ℕ → ℕ → Step
+takesEscaped rule held b =
+    cond (mayFollow rule b) (takes Binary held (bitXor b 0x20)) (ends Binary (handing 15 []) held)
+
 -- a byte that is no start
-abbrev pub goesOn : Mode → List ℕ → ℕ → Step
-goesOn (Skipping f) held b = goes (Skipping f) held
-goesOn (Open Binary) held b = cond (eqb b 0x7D) (goes Escape held) (takes Binary held b)
-goesOn (Open Ascii) held b = takesCharacter held b
-goesOn Escape held b = takes Binary held (bitXor b 0x20)
-goesOn (Digit h) held b = takesDigit (some h) held (valueOf b)
+abbrev pub goesOn : Escapes → Mode → List ℕ → ℕ → Step
+goesOn rule (Skipping f) held b = goes (Skipping f) held
+goesOn rule (Open Binary) held b = cond (eqb b 0x7D) (goes Escape held) (takes Binary held b)
+goesOn rule (Open Ascii) held b = takesCharacter held b
+goesOn rule Escape held b = takesEscaped rule held b
+goesOn rule (Digit h) held b = takesDigit (some h) held (valueOf b)
 
 -- "A 7Eh on the line always starts a new frame, also right after 7Dh"; "A 0Ah always starts a new frame"
-unfoldable pub stepOf : State → ℕ → Step
-stepOf s b = cond (eqb b (startOf (framingOf (s .mode)))) (opens s) (goesOn (s .mode) (s .held) b)
+unfoldable pub stepOf : Escapes → State → ℕ → Step
+stepOf rule s b = cond (eqb b (startOf (framingOf (s .mode)))) (opens s) (goesOn rule (s .mode) (s .held) b)

@@ -6,12 +6,16 @@ ghost use mathlib.Core.List.{[], _∷_, _++_};
 ghost use Prim.Native.Nat.{_+_, _≤_};
 ghost use lib.ListN.{length, getD};
 ghost use Rattle.standard.specs.declared.Framing.the-variants.{Binary, Ascii};
+ghost use Rattle.standard.specs.declared.Escapes.{Escapes};
+ghost use Rattle.standard.specs.declared.Escapes.the-variants.{Strict, Lenient};
 ghost use Rattle.standard.specs.Messages.{longest};
+ghost use Rattle.standard.specs.Framing.{mayFollow};
 ghost use Rattle.reader.specs.declared.Mode.the-variants.{Skipping, Open, Escape, Digit};
 ghost use Rattle.reader.specs.Step.{beyondLength, pendingOk, soundWith, goes, takes};
 ghost use Rattle.reader.specs.Read.{soundReader, freshReader, Reads, Steps, Lent};
 ghost use Rattle.reader.specs.Decide.{stepIn, opensIn, tells, skippedIn, Always, ForHeld, Decides, Judges, TakesIn};
 use frames::Taken;
+use standard::Escapes;
 use standard::Framing;
 use standard::Said;
 
@@ -27,11 +31,12 @@ pub enum Mode {
 }
 
 // How many recovered bytes are held, and where: the first `held` of `bytes`. After a verdict 0 the
-// message stands in `bytes` after the length byte.
+// message stands in `bytes` after the length byte. The rule of escapes stays as it was made.
 pub struct Reader {
     pub mode: Mode,
     pub held: usize,
     pub bytes: [u8; MOST],
+    pub escapes: Escapes,
 }
 
 // What one byte gives.
@@ -201,7 +206,7 @@ fn takes(framing: Framing, held: usize, first: u8, x: u8) -> Decision
 
 // "After a verdict everything up to the next start is skipped."
 fn skipping(framing: Framing, held: usize, b: u8) -> Decision
-    ensures { λ r. ⌜ ForHeld held r (stepIn (Skipping framing) b) ⌝ }
+    ensures { λ r. ⌜ ((rule : Escapes) → ForHeld held r (stepIn rule (Skipping framing) b)) ⌝ }
 {
     if b == standard::start_of(framing) {
         starts(framing)
@@ -213,7 +218,7 @@ fn skipping(framing: Framing, held: usize, b: u8) -> Decision
 // A byte in a binary frame.
 fn binary(held: usize, first: u8, b: u8) -> Decision
     requires { ⌜ held ≤ longest + 3 ⌝ }
-    ensures { λ r. ⌜ Decides held first r (stepIn (Open Binary) b) ⌝ }
+    ensures { λ r. ⌜ ((rule : Escapes) → Decides held first r (stepIn rule (Open Binary) b)) ⌝ }
 {
     if b == 0x7E {
         return opens(Mode::Open(Framing::Binary));
@@ -224,20 +229,34 @@ fn binary(held: usize, first: u8, b: u8) -> Decision
     takes(Framing::Binary, held, first, b)
 }
 
-// "A 7Eh on the line always starts a new frame, also right after 7Dh."
-fn escaped(held: usize, first: u8, b: u8) -> Decision
-    requires { ⌜ held ≤ longest + 3 ⌝ }
-    ensures { λ r. ⌜ Decides held first r (stepIn Escape b) ⌝ }
+// "7Dh followed by a byte other than 5Eh, 5Dh or 7Eh"; the last is asked before.
+fn may_follow(escapes: Escapes, b: u8) -> bool
+    ensures { λ r. ⌜ r ≡ mayFollow escapes b ⌝ }
 {
-    if b == 0x7E {
+    match escapes {
+        Escapes::Strict => b == 0x5E || b == 0x5D,
+        Escapes::Lenient => true,
+    }
+}
+
+// A byte after a 7Dh. "A 7Eh on the line always starts a new frame, also right after 7Dh"; 15 comes
+// "before 4 at the same byte".
+fn escaped(escapes: Escapes, held: usize, first: u8, after: u8) -> Decision
+    requires { ⌜ held ≤ longest + 3 ⌝ }
+    ensures { λ r. ⌜ Decides held first r (stepIn escapes Escape after) ⌝ }
+{
+    if after == 0x7E {
         return opens(Mode::Escape);
     }
-    takes(Framing::Binary, held, first, b ^ 0x20)
+    if !may_follow(escapes, after) {
+        return says(Mode::Skipping(Framing::Binary), 15);
+    }
+    takes(Framing::Binary, held, first, after ^ 0x20)
 }
 
 // A byte in an ASCII frame with no digit pending: the stop, where it is due, or a high digit.
 fn character(held: usize, first: u8, b: u8) -> Decision
-    ensures { λ r. ⌜ Decides held first r (stepIn (Open Ascii) b) ⌝ }
+    ensures { λ r. ⌜ ((rule : Escapes) → Decides held first r (stepIn rule (Open Ascii) b)) ⌝ }
 {
     if b == 0x0A {
         return opens(Mode::Open(Framing::Ascii));
@@ -259,7 +278,7 @@ fn character(held: usize, first: u8, b: u8) -> Decision
 // "Every byte as two characters, high digit first."
 fn low_digit(high: u8, held: usize, first: u8, b: u8) -> Decision
     requires { ⌜ (held ≤ longest + 3) × (high ≤ 15) ⌝ }
-    ensures { λ r. ⌜ Decides held first r (stepIn (Digit high) b) ⌝ }
+    ensures { λ r. ⌜ ((rule : Escapes) → Decides held first r (stepIn rule (Digit high) b)) ⌝ }
 {
     if b == 0x0A {
         return opens(Mode::Digit(high));
@@ -273,9 +292,9 @@ fn low_digit(high: u8, held: usize, first: u8, b: u8) -> Decision
 }
 
 // One byte, for `step` and `read` alike.
-fn decide(mode: Mode, held: usize, first: u8, b: u8) -> Decision
+fn decide(escapes: Escapes, mode: Mode, held: usize, first: u8, b: u8) -> Decision
     requires { ⌜ (held ≤ longest + 3) × (pendingOk mode ≡ true) ⌝ }
-    ensures { λ r. ⌜ Decides held first r (stepIn mode b) ⌝ }
+    ensures { λ r. ⌜ Decides held first r (stepIn escapes mode b) ⌝ }
 {
     match mode {
         Mode::Skipping(framing) => skipping(framing, held, b),
@@ -283,7 +302,7 @@ fn decide(mode: Mode, held: usize, first: u8, b: u8) -> Decision
             Framing::Binary => binary(held, first, b),
             Framing::Ascii => character(held, first, b),
         },
-        Mode::Escape => escaped(held, first, b),
+        Mode::Escape => escaped(escapes, held, first, b),
         Mode::Digit(high) => low_digit(high, held, first, b),
     }
 }
@@ -377,16 +396,16 @@ fn gives(mode: Mode, held: usize, used: usize, said: Said) -> Scanned
 
 // The read of a sound state: plain bytes of an open frame are taken at once, and every other byte
 // is decided on its own.
-fn go(from: Mode, count: usize, frame: &mut [u8], bytes: &[u8]) -> Scanned
+fn go(escapes: Escapes, from: Mode, count: usize, frame: &mut [u8], bytes: &[u8]) -> Scanned
     requires { ⌜ length (now frame) ≡ longest + 3 ⌝ }
     requires { ⌜ soundWith from count (getD (now frame) 0 0) ≡ true ⌝ }
-    ensures { λ r. ⌜ Reads (record { mode = from; held = count; bytes = now (frame .entry) }) (now (bytes .entry)) (record { mode = r .mode; held = r .held; bytes = now (frame .exit) }) (r .used) (r .said) ⌝ }
+    ensures { λ r. ⌜ Reads (record { mode = from; held = count; bytes = now (frame .entry); escapes = escapes }) (now (bytes .entry)) (record { mode = r .mode; held = r .held; bytes = now (frame .exit); escapes = escapes }) (r .used) (r .said) ⌝ }
 {
     let mut mode = from;
     let mut held = count;
     let mut i = skipped(mode, bytes);
     while i < bytes.len() {
-        let decision = decide(mode, held, frame[0], bytes[i]);
+        let decision = decide(escapes, mode, held, frame[0], bytes[i]);
         if decision.keep {
             frame[held] = decision.byte;
         }
@@ -413,8 +432,8 @@ fn go(from: Mode, count: usize, frame: &mut [u8], bytes: &[u8]) -> Scanned
 
 // A read with the frame's bytes in lent memory. Where it is not as long as a reader's array the
 // answer is 12, as for a state that is not sound.
-pub fn scan(from: Mode, count: usize, frame: &mut [u8], bytes: &[u8]) -> Scanned
-    ensures { λ r. ⌜ Lent (record { mode = from; held = count; bytes = now (frame .entry) }) (now (bytes .entry)) (record { mode = r .mode; held = r .held; bytes = now (frame .exit) }) (r .used) (r .said) ⌝ }
+pub fn scan(escapes: Escapes, from: Mode, count: usize, frame: &mut [u8], bytes: &[u8]) -> Scanned
+    ensures { λ r. ⌜ Lent (record { mode = from; held = count; bytes = now (frame .entry); escapes = escapes }) (now (bytes .entry)) (record { mode = r .mode; held = r .held; bytes = now (frame .exit); escapes = escapes }) (r .used) (r .said) ⌝ }
 {
     if frame.len() != MOST {
         return gives(from, count, 0, frames::plain(12));
@@ -422,7 +441,7 @@ pub fn scan(from: Mode, count: usize, frame: &mut [u8], bytes: &[u8]) -> Scanned
     if !sound(from, count, frame[0]) {
         return gives(from, count, 0, frames::plain(12));
     }
-    go(from, count, frame, bytes)
+    go(escapes, from, count, frame, bytes)
 }
 
 // Up to and including the first verdict's byte, or to the end. A state that is not sound is handed
@@ -431,8 +450,9 @@ pub fn read(reader: Reader, bytes: &[u8]) -> Reading
     ensures { λ r. ⌜ Reads reader (now (bytes .entry)) (r .reader) (r .used) (r .said) ⌝ }
 {
     let mode = reader.mode;
+    let escapes = reader.escapes;
     let mut frame = reader.bytes;
-    let answer = scan(mode, reader.held, &mut frame, bytes);
+    let answer = scan(escapes, mode, reader.held, &mut frame, bytes);
     let next = answer.mode;
     let said = answer.said;
     Reading {
@@ -440,22 +460,38 @@ pub fn read(reader: Reader, bytes: &[u8]) -> Reading
             mode: next,
             held: answer.held,
             bytes: frame,
+            escapes,
         },
         used: answer.used,
         said,
     }
 }
 
+// A reader that has seen nothing.
+fn fresh_by(escapes: Escapes, framing: Framing) -> Reader
+    ensures { λ r. ⌜ r ≡ freshReader escapes framing ⌝ }
+{
+    Reader {
+        mode: Mode::Skipping(framing),
+        held: 0,
+        bytes: [0u8; MOST],
+        escapes,
+    }
+}
+
 impl Reader {
-    // A reader that has seen nothing.
+    // "A reader made without saying otherwise is now strict."
     pub fn fresh(framing: Framing) -> Reader
-        ensures { λ r. ⌜ r ≡ freshReader framing ⌝ }
+        ensures { λ r. ⌜ r ≡ freshReader Strict framing ⌝ }
     {
-        Reader {
-            mode: Mode::Skipping(framing),
-            held: 0,
-            bytes: [0u8; MOST],
-        }
+        fresh_by(Escapes::Strict, framing)
+    }
+
+    // "The old rule can be asked for."
+    pub fn fresh_lenient(framing: Framing) -> Reader
+        ensures { λ r. ⌜ r ≡ freshReader Lenient framing ⌝ }
+    {
+        fresh_by(Escapes::Lenient, framing)
     }
 
     // Whether document 01 calls the state sound; any other is refused with 12.

@@ -21,7 +21,7 @@ fn good_reply(type_byte: u8) -> Reply
     }
 }
 
-// To every verdict and type byte; verdicts 1 to 8 are answered "flag set or not".
+// To every verdict and type byte; verdicts 1 to 8 and 15 are answered "flag set or not".
 pub fn reply(verdict: u8, type_byte: u8) -> Reply
     ensures { λ r. ⌜ replyNumber r ≡ replyOf verdict «type_byte» ⌝ }
 {
@@ -33,7 +33,7 @@ pub fn reply(verdict: u8, type_byte: u8) -> Reply
                 good_reply(type_byte)
             }
         }
-        1..=5 | 7 => Reply::NegativeAcknowledge,
+        1..=5 | 7 | 15 => Reply::NegativeAcknowledge,
         6 | 8 => Reply::Rejected,
         _ => Reply::Nothing,
     }

@@ -7,42 +7,73 @@ use mathlib.Core.Logic.{_⊎_, inl, inr}
 use mathlib.Core.Bool.{Bool, true, false, cond, not}
 use mathlib.Core.Option.{Option, none, some}
 use mathlib.Core.List.{List, [], _∷_, _++_, append-nil}
+use lib.Bits.{bitXor}
 use lib.Dec.{eqb, ltb}
 use lib.ListN.{length, drop, List·getD-append, length-append}
 use lib.Seq.{take-append-le}
 use borrow.Author.Tests.{eq-eqb, lt-ltb, le-ltb, ltb-false}
 use Rattle.standard.specs.declared.Framing.{Framing}
 use Rattle.standard.specs.declared.Framing.the-variants.{Binary, Ascii}
+use Rattle.standard.specs.declared.Escapes.{Escapes}
 use Rattle.standard.specs.Messages.{lengthOk, among}
-use Rattle.standard.specs.Framing.{startOf, Recovered, also, unstuff, valueOf, digitsOf, pairs}
-use Rattle.standard.specs.Framing.{recovered}
+use Rattle.standard.specs.Framing.{startOf, Recovered, also, mayFollow, stopped, unstuff, valueOf, digitsOf}
+use Rattle.standard.specs.Framing.{pairs, recovered}
 use Rattle.standard.specs.Judge.{Handed, decided, plain, wholeOf, atStop, ended, stuck}
 use Rattle.standard.specs.Judge.{frameJudged, judgeAfter, judge}
 use Rattle.standard.specs.Stream.{upToStart, handedOf}
-use Rattle.standard.proofs.Judge.{up-to-through, parts-through, handed-append, unstuff-fault}
+use Rattle.standard.proofs.Judge.{up-to-through, parts-through, handed-append}
 
 -- ---- what is recovered from more bytes
 
 -- a list that begins with another
-record Onward (front all : List ℕ) : Type 0 where
-  extra : List ℕ
-  is : all ≡ front ++ extra
+pub record Onward (front all : List ℕ) : Type 0 where
+  pub extra : List ℕ
+  pub is : all ≡ front ++ extra
 
-onward-cons : (b : ℕ) (front all : List ℕ) → Onward front all → Onward (b ∷ front) (b ∷ all)
+pub onward-cons : (b : ℕ) (front all : List ℕ) → Onward front all → Onward (b ∷ front) (b ∷ all)
 onward-cons b front all w = record { extra = w .extra; is = ap (λ (l : List ℕ). b ∷ l) (w .is) }
 
-unstuff-more : (escape : Bool) (a more : List ℕ) → Onward (unstuff escape a .bytes) (unstuff escape (a ++ more) .bytes)
+-- recovering has stopped, or it goes on from there
+record Halted (r r′ : Recovered) : Type 0 where
+  bytes : r′ .bytes ≡ r .bytes
+  fault : r′ .fault ≡ r .fault
+
+record Further (r r′ : Recovered) : Type 0 where
+  none-yet : r .fault ≡ none
+  bytes : Onward (r .bytes) (r′ .bytes)
+
+-- with a byte before both
+also-more : (b : ℕ) (r r′ : Recovered) → Halted r r′ ⊎ Further r r′
+    → Halted (also b r) (also b r′) ⊎ Further (also b r) (also b r′)
+also-more b r r′ (inl w) = inl (record { bytes = ap (λ (l : List ℕ). b ∷ l) (w .bytes); fault = w .fault })
+also-more b r r′ (inr w) =
+    inr (record { none-yet = w .none-yet; bytes = onward-cons b (r .bytes) (r′ .bytes) (w .bytes) })
+
+unstuff-more : (rule : Escapes) (escape : Bool) (a more : List ℕ)
+    → Halted (unstuff rule escape a) (unstuff rule escape (a ++ more))
+    ⊎ Further (unstuff rule escape a) (unstuff rule escape (a ++ more))
 unfolding unstuff
-unstuff-more escape [] more = record { extra = unstuff escape more .bytes; is = refl }
-unstuff-more true (b ∷ a) more =
-    onward-cons _ (unstuff false a .bytes) (unstuff false (a ++ more) .bytes) (unstuff-more false a more)
-unstuff-more false (b ∷ a) more =
-    go (eqb b 0x7D) (unstuff (eqb b 0x7D) a) (unstuff (eqb b 0x7D) (a ++ more)) (unstuff-more (eqb b 0x7D) a more)
+unstuff-more rule escape [] more =
+    inr (record { none-yet = refl; bytes = record { extra = unstuff rule escape more .bytes; is = refl } })
+unstuff-more rule true (b ∷ a) more =
+    go (mayFollow rule b) (unstuff rule false a) (unstuff rule false (a ++ more)) (unstuff-more rule false a more)
   where
-    go : (t : Bool) (r r′ : Recovered) → Onward (r .bytes) (r′ .bytes)
-        → Onward (cond t r (also b r) .bytes) (cond t r′ (also b r′) .bytes)
+    x : ℕ
+    x = bitXor b 0x20
+
+    go : (t : Bool) (r r′ : Recovered) → Halted r r′ ⊎ Further r r′
+        → Halted (cond t (also x r) (stopped 15)) (cond t (also x r′) (stopped 15))
+        ⊎ Further (cond t (also x r) (stopped 15)) (cond t (also x r′) (stopped 15))
+    go true r r′ w = also-more x r r′ w
+    go false r r′ w = inl (record { bytes = refl; fault = refl })
+unstuff-more rule false (b ∷ a) more =
+    go (eqb b 0x7D) (unstuff rule (eqb b 0x7D) a) (unstuff rule (eqb b 0x7D) (a ++ more))
+    (unstuff-more rule (eqb b 0x7D) a more)
+  where
+    go : (t : Bool) (r r′ : Recovered) → Halted r r′ ⊎ Further r r′
+        → Halted (cond t r (also b r)) (cond t r′ (also b r′)) ⊎ Further (cond t r (also b r)) (cond t r′ (also b r′))
     go true r r′ w = w
-    go false r r′ w = onward-cons b (r .bytes) (r′ .bytes) w
+    go false r r′ w = also-more b r r′ w
 
 -- a byte among them is no digit, or all are digits
 record NoneAt (a : List ℕ) (more : List ℕ) : Type 0 where
@@ -71,23 +102,14 @@ pairs-more [] es = record { extra = pairs es; is = refl }
 pairs-more (h ∷ []) es = record { extra = pairs (h ∷ es); is = refl }
 pairs-more (h ∷ l ∷ ds) es = onward-cons _ (pairs ds) (pairs (ds ++ es)) (pairs-more ds es)
 
--- recovering has stopped, or it goes on from there
-record Halted (r r′ : Recovered) : Type 0 where
-  bytes : r′ .bytes ≡ r .bytes
-  fault : r′ .fault ≡ r .fault
-
-record Further (r r′ : Recovered) : Type 0 where
-  none-yet : r .fault ≡ none
-  bytes : Onward (r .bytes) (r′ .bytes)
-
-recovered-more : (f : Framing) (a more : List ℕ)
-    → Halted (recovered f a) (recovered f (a ++ more)) ⊎ Further (recovered f a) (recovered f (a ++ more))
-recovered-more Binary a more = inr (record { none-yet = unstuff-fault false a; bytes = unstuff-more false a more })
-recovered-more Ascii a more = go (digits-more a more)
+recovered-more : (rule : Escapes) (f : Framing) (a more : List ℕ)
+    → Halted (recovered rule f a) (recovered rule f (a ++ more)) ⊎ Further (recovered rule f a) (recovered rule f (a ++ more))
+recovered-more rule Binary a more = unstuff-more rule false a more
+recovered-more rule Ascii a more = go (digits-more a more)
   where
     go : NoneAt a more ⊎ AllDigits a more
-        → Halted (recovered Ascii a) (recovered Ascii (a ++ more)) ⊎ Further (recovered Ascii a)
-        (recovered Ascii (a ++ more))
+        → Halted (recovered rule Ascii a) (recovered rule Ascii (a ++ more)) ⊎ Further (recovered rule Ascii a)
+        (recovered rule Ascii (a ++ more))
     go (inl w) =
         let few : length (digitsOf a) < length (a ++ more) = omega (arith, w .fewer, length-append a more) in
         inl (record {
@@ -166,9 +188,9 @@ module _ (f : Framing) (a more : List ℕ) (h : Handed) where
       go false t k w = w
 
 -- WHAT IS DECIDED STAYS DECIDED, whatever follows
-pub decided-more : (f : Framing) (a more : List ℕ) (h : Handed) → judgeAfter f a ≡ decided h
-    → judgeAfter f (a ++ more) ≡ decided h
-decided-more f a more h e = go (recovered f a) (recovered f (a ++ more)) (recovered-more f a more) e
+pub decided-more : (rule : Escapes) (f : Framing) (a more : List ℕ) (h : Handed) → judgeAfter rule f a ≡ decided h
+    → judgeAfter rule f (a ++ more) ≡ decided h
+decided-more rule f a more h e = go (recovered rule f a) (recovered rule f (a ++ more)) (recovered-more rule f a more) e
   where
     go : (r r′ : Recovered) → Halted r r′ ⊎ Further r r′ → frameJudged (r .bytes) (r .fault) (ended f a) ≡ decided h
         → frameJudged (r′ .bytes) (r′ .fault) (ended f (a ++ more)) ≡ decided h
@@ -179,16 +201,16 @@ decided-more f a more h e = go (recovered f a) (recovered f (a ++ more)) (recove
 -- ---- in a stream
 
 -- it hands out its verdict, and then what follows it hands out its own
-pub handed-part : (f : Framing) (part q : List ℕ) (h : Handed) → among (startOf f) part ≡ false
-    → judge f (startOf f ∷ part) ≡ decided h → handedOf f (startOf f ∷ part ++ q) ≡ h ∷ handedOf f q
-handed-part f part q h clear e =
+pub handed-part : (rule : Escapes) (f : Framing) (part q : List ℕ) (h : Handed) → among (startOf f) part ≡ false
+    → judge rule f (startOf f ∷ part) ≡ decided h → handedOf rule f (startOf f ∷ part ++ q) ≡ h ∷ handedOf rule f q
+handed-part rule f part q h clear e =
     let x = startOf f in
-    let still = decided-more f part (upToStart x q) h e in
+    let still = decided-more rule f part (upToStart x q) h e in
     rw (eq-eqb x x refl, up-to-through x part q clear, parts-through x part q clear, still)
 
 -- WHATEVER STANDS BEFORE AND AFTER A PART THAT IS DECIDED: the bytes before are as if its start byte were their last
-pub handed-amid-part : (f : Framing) (p part q : List ℕ) (h : Handed) → among (startOf f) part ≡ false
-    → judge f (startOf f ∷ part) ≡ decided h
-    → handedOf f (p ++ (startOf f ∷ part ++ q)) ≡ handedOf f (p ++ (startOf f ∷ [])) ++ (h ∷ handedOf f q)
-handed-amid-part f p part q h clear e =
-    handed-append f p (part ++ q) ∙ ap (λ l. handedOf f (p ++ (startOf f ∷ [])) ++ l) (handed-part f part q h clear e)
+pub handed-amid-part : (rule : Escapes) (f : Framing) (p part q : List ℕ) (h : Handed) → among (startOf f) part ≡ false
+    → judge rule f (startOf f ∷ part) ≡ decided h
+    → handedOf rule f (p ++ (startOf f ∷ part ++ q)) ≡ handedOf rule f (p ++ (startOf f ∷ [])) ++ (h ∷ handedOf rule f q)
+handed-amid-part rule f p part q h clear e =
+    handed-append rule f p (part ++ q) ∙ ap (λ l. handedOf rule f (p ++ (startOf f ∷ [])) ++ l) (handed-part rule f part q h clear e)

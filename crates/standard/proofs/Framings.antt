@@ -15,6 +15,8 @@ use lib.Seq.{take-suc}
 use borrow.Author.Tests.{eqb-true, eqb-false, ltb-true, ltb-false, leb-true, lt-ltb, le-ltb, ne-eqb, le-leb, lt-leb}
 use Rattle.standard.specs.declared.Framing.{Framing}
 use Rattle.standard.specs.declared.Framing.the-variants.{Binary, Ascii}
+use Rattle.standard.specs.declared.Escapes.{Escapes}
+use Rattle.standard.specs.declared.Escapes.the-variants.{Strict, Lenient}
 pub use Rattle.standard.specs.Words.{Bytes}
 use Rattle.standard.specs.Sums.{sumsOf}
 use Rattle.standard.specs.Messages.{lengthOk, among}
@@ -135,16 +137,19 @@ value-digit d h = go (ltb d 10) refl
         (ap some (omega arith))
 
 -- one byte is recovered from what it is sent as
-recover-sent : (b : ℕ) (l : List ℕ) → Sent b l → (q : List ℕ) → unstuff false (l ++ q) ≡ also b (unstuff false q)
+recover-sent : (rule : Escapes) (b : ℕ) (l : List ℕ) → Sent b l → (q : List ℕ)
+    → unstuff rule false (l ++ q) ≡ also b (unstuff rule false q)
 unfolding unstuff
-recover-sent b l start-escaped q = refl
-recover-sent b l escape-escaped q = refl
-recover-sent b l (as-it-is b′ e k) q = rw k
+recover-sent Strict b l start-escaped q = refl
+recover-sent Lenient b l start-escaped q = refl
+recover-sent Strict b l escape-escaped q = refl
+recover-sent Lenient b l escape-escaped q = refl
+recover-sent rule b l (as-it-is b′ e k) q = rw k
 
-recover-one : (f : Framing) (b : ℕ) (q : List ℕ) → b < 256 → recovered f (coded f b ++ q) ≡ also b (recovered f q)
+recover-one : (rule : Escapes) (f : Framing) (b : ℕ) (q : List ℕ) → b < 256 → recovered rule f (coded f b ++ q) ≡ also b (recovered rule f q)
 unfolding digitsOf pairs
-recover-one Binary b q h = recover-sent b (stuffed b) (sent b) q
-recover-one Ascii b q h =
+recover-one rule Binary b q h = recover-sent rule b (stuffed b) (sent b) q
+recover-one rule Ascii b q h =
     let high = value-digit (b / 16) (omega arith) in
     rw (high, value-digit (b % 16) (omega arith), leb·suc-suc, leb·suc-suc, div-add-mod' b 16)
 
@@ -153,13 +158,13 @@ abbrev pub alsoAll : List ℕ → Recovered → Recovered
 alsoAll bs r = record { bytes = bs ++ r .bytes; fault = r .fault }
 
 -- WHAT WAS CODED IS RECOVERED, whatever follows it
-pub recovers : (f : Framing) (bs q : List ℕ) → Bytes bs → recovered f (coding f bs ++ q) ≡ alsoAll bs (recovered f q)
+pub recovers : (rule : Escapes) (f : Framing) (bs q : List ℕ) → Bytes bs → recovered rule f (coding f bs ++ q) ≡ alsoAll bs (recovered rule f q)
 unfolding coding flatMap
-recovers f [] q h = refl
-recovers f (b ∷ bs) q h =
-    ap (recovered f) (append-assoc (coded f b) (coding f bs) q)
-    ∙ recover-one f b (coding f bs ++ q) (h zero)
-    ∙ ap (also b) (recovers f bs q (λ i. h (suc i)))
+recovers rule f [] q h = refl
+recovers rule f (b ∷ bs) q h =
+    ap (recovered rule f) (append-assoc (coded f b) (coding f bs) q)
+    ∙ recover-one rule f b (coding f bs ++ q) (h zero)
+    ∙ ap (also b) (recovers rule f bs q (λ i. h (suc i)))
 
 -- the body of a message: a length of at most 255, and sums of at most 254
 pub body-bytes : (m : List ℕ) → lengthOk (length m) ≡ true → Bytes m → Bytes (bodyOf m)

@@ -8,18 +8,21 @@ use mathlib.Core.Path.{_≡_, refl, sym, ap, ap₂, _∙_, subst}
 use mathlib.Core.Bool.{Bool, true, false, cond, not, _||_}
 use mathlib.Core.Option.{Option, none, some}
 use mathlib.Core.List.{List, [], _∷_, _++_, flatMap, append-nil, append-assoc}
+use lib.Bits.{bitXor}
 use lib.Dec.{eqb, ltb}
 use lib.ListN.{length, getD, take, drop, length-append, take-append-drop}
 use lib.Seq.{take-append-seam, drop-at, getD-append-seam, getD-append-add, drop-cons, length-take-le}
 use borrow.Author.Tests.{eq-eqb, ne-eqb, eqb-true, eqb-false, le-leb, lt-ltb, le-ltb, ltb-false, not-false}
 use Rattle.standard.specs.declared.Framing.{Framing}
 use Rattle.standard.specs.declared.Framing.the-variants.{Binary, Ascii}
+use Rattle.standard.specs.declared.Escapes.{Escapes}
+use Rattle.standard.specs.declared.Escapes.the-variants.{Lenient}
 use Rattle.standard.specs.declared.Sums.{Sums}
 use Rattle.standard.specs.Words.{firstOf}
 use Rattle.standard.specs.Sums.{sumsOf}
 use Rattle.standard.specs.Messages.{longest, lengthOk, among, messageTests, checkOf}
-use Rattle.standard.specs.Framing.{startOf, stopOf, stuffed, coding, bodyOf, frameOf, Recovered, also, unstuff}
-use Rattle.standard.specs.Framing.{digitsOf, pairs, recovered}
+use Rattle.standard.specs.Framing.{startOf, stopOf, stuffed, coding, bodyOf, frameOf, Recovered, also, mayFollow}
+use Rattle.standard.specs.Framing.{stopped, unstuff, digitsOf, pairs, noDigit, recovered}
 use Rattle.standard.specs.Judge.{Handed, Judged, decided, unfinished, handing, plain, sumsDiffer, wholeOf, atStop}
 use Rattle.standard.specs.Judge.{ended, stuck, frameJudged, judgeAfter, judge}
 use Rattle.standard.specs.Stream.{upToStart, partsOf, partHands, partsHand, handedOf}
@@ -75,32 +78,32 @@ hands-alike unfinished [] a b later later′ = refl
 hands-alike unfinished (p ∷ ps) a b later later′ = refl
 
 -- a part that has only its start is silent at the end
-judge-start : (f : Framing) → judge f (startOf f ∷ []) ≡ unfinished
+judge-start : (rule : Escapes) (f : Framing) → judge rule f (startOf f ∷ []) ≡ unfinished
 unfolding unstuff digitsOf pairs
-judge-start Binary = refl
-judge-start Ascii = refl
+judge-start rule Binary = refl
+judge-start rule Ascii = refl
 
 -- what parts hand out, where another follows: as if it were only a start
-hands-append : (f : Framing) (ps : List (List ℕ)) (part : List ℕ) (later : List (List ℕ))
-    → partsHand f (ps ++ (part ∷ later)) ≡ partsHand f (ps ++ ((startOf f ∷ []) ∷ [])) ++ partsHand f (part ∷ later)
-hands-append f [] part later = rw (judge-start f)
-hands-append f (p ∷ ps) part later =
+hands-append : (rule : Escapes) (f : Framing) (ps : List (List ℕ)) (part : List ℕ) (later : List (List ℕ))
+    → partsHand rule f (ps ++ (part ∷ later)) ≡ partsHand rule f (ps ++ ((startOf f ∷ []) ∷ [])) ++ partsHand rule f (part ∷ later)
+hands-append rule f [] part later = rw (judge-start rule f)
+hands-append rule f (p ∷ ps) part later =
     let first = ps ++ ((startOf f ∷ []) ∷ []) in
-    ap₂ _++_ (hands-alike (judge f p) ps part (startOf f ∷ []) later []) (hands-append f ps part later)
-    ∙ sym (append-assoc (partHands (judge f p) first) (partsHand f first) (partsHand f (part ∷ later)))
+    ap₂ _++_ (hands-alike (judge rule f p) ps part (startOf f ∷ []) later []) (hands-append rule f ps part later)
+    ∙ sym (append-assoc (partHands (judge rule f p) first) (partsHand rule f first) (partsHand rule f (part ∷ later)))
 
 -- a stream that begins with a start
 pub parts-start : (x : ℕ) (q : List ℕ) → partsOf x (x ∷ q) ≡ (x ∷ upToStart x q) ∷ partsOf x q
 parts-start x q = rw (eq-eqb x x refl)
 
 -- A STREAM PARTS AT A START BYTE: that byte ends what came before, and what comes from it on does not depend on that
-pub handed-append : (f : Framing) (p q : List ℕ)
-    → handedOf f (p ++ (startOf f ∷ q)) ≡ handedOf f (p ++ (startOf f ∷ [])) ++ handedOf f (startOf f ∷ q)
-handed-append f p q =
+pub handed-append : (rule : Escapes) (f : Framing) (p q : List ℕ)
+    → handedOf rule f (p ++ (startOf f ∷ q)) ≡ handedOf rule f (p ++ (startOf f ∷ [])) ++ handedOf rule f (startOf f ∷ q)
+handed-append rule f p q =
     let x = startOf f in
-    ap (partsHand f) (parts-append x p q ∙ ap (λ (l : List (List ℕ)). partsOf x p ++ l) (parts-start x q))
-    ∙ hands-append f (partsOf x p) (x ∷ upToStart x q) (partsOf x q)
-    ∙ ap₂ (λ (l r : List (List ℕ)). partsHand f l ++ partsHand f r)
+    ap (partsHand rule f) (parts-append x p q ∙ ap (λ (l : List (List ℕ)). partsOf x p ++ l) (parts-start x q))
+    ∙ hands-append rule f (partsOf x p) (x ∷ upToStart x q) (partsOf x q)
+    ∙ ap₂ (λ (l r : List (List ℕ)). partsHand rule f l ++ partsHand rule f r)
     (sym (parts-append x p [] ∙ ap (λ (l : List (List ℕ)). partsOf x p ++ l) (parts-start x [])))
     (sym (parts-start x q))
 
@@ -154,30 +157,30 @@ held-judged m more fault end h =
     rw (h, le-ltb (length (heldAfter m more)) (length m + 2) long)
 
 -- once a message's body is there, the end decides
-judge-body : (f : Framing) (m q : List ℕ) → lengthOk (length m) ≡ true → Bytes (bodyOf m)
-    → judgeAfter f (coding f (bodyOf m) ++ q)
-    ≡ ended f (coding f (bodyOf m) ++ q) (length m) (heldAfter m (recovered f q .bytes))
-judge-body f m q h b =
+judge-body : (rule : Escapes) (f : Framing) (m q : List ℕ) → lengthOk (length m) ≡ true → Bytes (bodyOf m)
+    → judgeAfter rule f (coding f (bodyOf m) ++ q)
+    ≡ ended f (coding f (bodyOf m) ++ q) (length m) (heldAfter m (recovered rule f q .bytes))
+judge-body rule f m q h b =
     let end = ended f (coding f (bodyOf m) ++ q) in
-    let left = recovered f q in
+    let left = recovered rule f q in
     let sums = sumsOf (length m ∷ m) .one ∷ sumsOf (length m ∷ m) .two ∷ [] in
-    ap (λ (r : Recovered). frameJudged (r .bytes) (r .fault) end) (recovers f (bodyOf m) q b)
+    ap (λ (r : Recovered). frameJudged (r .bytes) (r .fault) end) (recovers rule f (bodyOf m) q b)
     ∙ ap (λ (rest : List ℕ). frameJudged (length m ∷ rest) (left .fault) end) (append-assoc m sums (left .bytes))
     ∙ held-judged m (left .bytes) (left .fault) end h
 
 -- THE FRAME OF EVERY MESSAGE OF 1 TO 255 BYTES is judged by the message's own tests, whatever follows it
-pub judge-every : (f : Framing) (m q : List ℕ) → lengthOk (length m) ≡ true → Bytes (bodyOf m)
-    → judge f (frameOf f m ++ q) ≡ decided (handing (checkOf m) m)
+pub judge-every : (rule : Escapes) (f : Framing) (m q : List ℕ) → lengthOk (length m) ≡ true → Bytes (bodyOf m)
+    → judge rule f (frameOf f m ++ q) ≡ decided (handing (checkOf m) m)
 unfolding frameOf
-judge-every f m q h b =
-    ap (judgeAfter f) (append-assoc (coding f (bodyOf m)) (stopOf f) q)
-    ∙ judge-body f m (stopOf f ++ q) h b
-    ∙ held-ended f m (recovered f (stopOf f ++ q) .bytes) q
+judge-every rule f m q h b =
+    ap (judgeAfter rule f) (append-assoc (coding f (bodyOf m)) (stopOf f) q)
+    ∙ judge-body rule f m (stopOf f ++ q) h b
+    ∙ held-ended f m (recovered rule f (stopOf f ++ q) .bytes) q
 
 -- THE FRAME OF A GOOD MESSAGE IS JUDGED GOOD, whatever follows it
-pub judge-frame : (f : Framing) (m q : List ℕ) → checkOf m ≡ 0 → Bytes (bodyOf m)
-    → judge f (frameOf f m ++ q) ≡ decided (handing 0 m)
-judge-frame f m q h b = judge-every f m q (good-length m h) b ∙ ap (λ (n : ℕ). decided (handing n m)) h
+pub judge-frame : (rule : Escapes) (f : Framing) (m q : List ℕ) → checkOf m ≡ 0 → Bytes (bodyOf m)
+    → judge rule f (frameOf f m ++ q) ≡ decided (handing 0 m)
+judge-frame rule f m q h b = judge-every rule f m q (good-length m h) b ∙ ap (λ (n : ℕ). decided (handing n m)) h
 
 -- ---- what is judged good
 
@@ -193,25 +196,62 @@ pub first-none : (t : Bool) (n : ℕ) (tests : List (Bool × ℕ)) → (n ≡ 0 
 first-none true n tests h e = absurd (h e)
 first-none false n tests h e = (refl, e)
 
--- recovering a binary part never stops
-pub unstuff-fault : (e : Bool) (l : List ℕ) → unstuff e l .fault ≡ none
+-- recovering never stops, or at a byte of this verdict
+pub data FaultIs : ℕ → Option ℕ → Type 0 where
+  never : (n : ℕ) → FaultIs n none
+  stops : (n : ℕ) → FaultIs n (some n)
+
+-- 15 in binary
+pub unstuff-fault : (rule : Escapes) (e : Bool) (l : List ℕ) → FaultIs 15 (unstuff rule e l .fault)
 unfolding unstuff
-unstuff-fault e [] = refl
-unstuff-fault true (b ∷ l) = unstuff-fault false l
-unstuff-fault false (b ∷ l) = go (eqb b 0x7D) (unstuff (eqb b 0x7D) l) (unstuff-fault (eqb b 0x7D) l)
+unstuff-fault rule e [] = never 15
+unstuff-fault rule true (b ∷ l) = go (mayFollow rule b) (unstuff rule false l) (unstuff-fault rule false l)
+  where
+    go : (t : Bool) (r : Recovered) → FaultIs 15 (r .fault)
+        → FaultIs 15 (cond t (also (bitXor b 0x20) r) (stopped 15) .fault)
+    go true r h = h
+    go false r h = stops 15
+unstuff-fault rule false (b ∷ l) = go (eqb b 0x7D) (unstuff rule (eqb b 0x7D) l) (unstuff-fault rule (eqb b 0x7D) l)
+  where
+    go : (t : Bool) (r : Recovered) → FaultIs 15 (r .fault) → FaultIs 15 (cond t r (also b r) .fault)
+    go true r h = h
+    go false r h = h
+
+-- and never by the old rule
+pub lenient-fault : (e : Bool) (l : List ℕ) → unstuff Lenient e l .fault ≡ none
+unfolding unstuff
+lenient-fault e [] = refl
+lenient-fault true (b ∷ l) = lenient-fault false l
+lenient-fault false (b ∷ l) = go (eqb b 0x7D) (unstuff Lenient (eqb b 0x7D) l) (lenient-fault (eqb b 0x7D) l)
   where
     go : (t : Bool) (r : Recovered) → r .fault ≡ none → cond t r (also b r) .fault ≡ none
     go true r h = h
     go false r h = h
 
--- what stops recovering is no good verdict
-fault-bad : (f : Framing) (l : List ℕ) → recovered f l .fault ≡ some 0 → ⊥
-fault-bad Binary l h = let e = unstuff-fault false l in let z : _≡_ {A = ℕ} 0 1 = cc in omega arith
-fault-bad Ascii l h = go (ltb (length (digitsOf l)) (length l)) h
+-- 2 in ASCII
+digits-fault : (l : List ℕ) → FaultIs 2 (noDigit l)
+digits-fault l = go (ltb (length (digitsOf l)) (length l))
   where
-    go : (t : Bool) → cond {A = Option ℕ} t (some 2) none ≡ some 0 → ⊥
-    go true e = let z : _≡_ {A = ℕ} 2 0 = cc in omega arith
-    go false e = let z : _≡_ {A = ℕ} 0 1 = cc in omega arith
+    go : (t : Bool) → FaultIs 2 (cond t (some 2) none)
+    go true = stops 2
+    go false = never 2
+
+abbrev pub faultOf : Framing → ℕ
+faultOf Binary = 15
+faultOf Ascii = 2
+
+pub recovered-fault : (rule : Escapes) (f : Framing) (l : List ℕ) → FaultIs (faultOf f) (recovered rule f l .fault)
+recovered-fault rule Binary l = unstuff-fault rule false l
+recovered-fault rule Ascii l = digits-fault l
+
+-- what stops recovering is no good verdict
+fault-bad : (rule : Escapes) (f : Framing) (l : List ℕ) → recovered rule f l .fault ≡ some 0 → ⊥
+fault-bad rule f l = go f (recovered rule f l .fault) (recovered-fault rule f l)
+  where
+    go : (f : Framing) (fault : Option ℕ) → FaultIs (faultOf f) fault → fault ≡ some 0 → ⊥
+    go f fault (never n) e = let z : _≡_ {A = ℕ} 0 1 = cc in omega arith
+    go Binary fault (stops n) e = let z : _≡_ {A = ℕ} 15 0 = cc in omega arith
+    go Ascii fault (stops n) e = let z : _≡_ {A = ℕ} 2 0 = cc in omega arith
 
 decided-same : (a b : Handed) → decided a ≡ decided b → a ≡ b
 decided-same a b e = cc
@@ -314,16 +354,16 @@ ended-stop Ascii m behind rest e =
     record { tail = said .tail; is = said .is }
 
 -- what a good judgement says: the body was recovered, and any more, and then the end decided
-record GoodSaid (f : Framing) (after m : List ℕ) : Type 0 where
+record GoodSaid (rule : Escapes) (f : Framing) (after m : List ℕ) : Type 0 where
   check : checkOf m ≡ 0
   rest : List ℕ
   more : List ℕ
-  bytes : recovered f after .bytes ≡ bodyOf m ++ more
+  bytes : recovered rule f after .bytes ≡ bodyOf m ++ more
   end : ended f after (length m) rest ≡ decided (handing 0 m)
 
-good-said : (f : Framing) (after m : List ℕ) → judgeAfter f after ≡ decided (handing 0 m) → GoodSaid f after m
-good-said f after m e =
-    let said = end-said (recovered f after .bytes) (recovered f after .fault) (ended f after) m (fault-bad f after) e in
+good-said : (rule : Escapes) (f : Framing) (after m : List ℕ) → judgeAfter rule f after ≡ decided (handing 0 m) → GoodSaid rule f after m
+good-said rule f after m e =
+    let said = end-said (recovered rule f after .bytes) (recovered rule f after .fault) (ended f after) m (fault-bad rule f after) e in
     let L = said .L in
     let rest = said .rest in
     let whole = whole-said L rest m (ended-whole f after L rest m (said .said)) in
@@ -339,8 +379,8 @@ good-said f after m e =
     }
 
 -- what is handed out with verdict 0 is a good message
-pub good-check : (f : Framing) (after m : List ℕ) → judgeAfter f after ≡ decided (handing 0 m) → checkOf m ≡ 0
-good-check f after m e = good-said f after m e .check
+pub good-check : (rule : Escapes) (f : Framing) (after m : List ℕ) → judgeAfter rule f after ≡ decided (handing 0 m) → checkOf m ≡ 0
+good-check rule f after m e = good-said rule f after m e .check
 
 -- the bytes after a start begin with the rest of a good message's frame
 pub record Begins (f : Framing) (after m : List ℕ) : Type 0 where
@@ -350,10 +390,10 @@ pub record Begins (f : Framing) (after m : List ℕ) : Type 0 where
   pub is : after ≡ coding f (bodyOf m) ++ (stopOf f ++ tail)
 
 -- WHAT IS JUDGED GOOD BEGINS WITH ITS MESSAGE'S FRAME, where its bytes are coded again as they came
-pub good-begins : (f : Framing) (after m : List ℕ) → Again f (recovered f after .bytes) after
-    → judgeAfter f after ≡ decided (handing 0 m) → Begins f after m
-good-begins f after m a e =
-    let said = good-said f after m e in
+pub good-begins : (rule : Escapes) (f : Framing) (after m : List ℕ) → Again f (recovered rule f after .bytes) after
+    → judgeAfter rule f after ≡ decided (handing 0 m) → Begins f after m
+good-begins rule f after m a e =
+    let said = good-said rule f after m e in
     let behind = coding f (said .more) ++ a .left in
     let split : after ≡ coding f (bodyOf m) ++ behind =
     sym (a .chars)
@@ -372,24 +412,24 @@ good-begins f after m a e =
 -- ---- the frame's last byte decides
 
 -- a frame up to its last byte, and that byte
-pub record Last (f : Framing) (m : List ℕ) : Type 0 where
+pub record Last (rule : Escapes) (f : Framing) (m : List ℕ) : Type 0 where
   pub front : List ℕ
   pub last : ℕ
   pub is : frameOf f m ≡ startOf f ∷ front ++ (last ∷ [])
-  pub before : judge f (startOf f ∷ front) ≡ unfinished
+  pub before : judge rule f (startOf f ∷ front) ≡ unfinished
 
 -- a sent byte's last character, and nothing is recovered from what stands before it
 record LastOf (l : List ℕ) : Type 0 where
   init : List ℕ
   last : ℕ
   is : l ≡ init ++ (last ∷ [])
-  silent : unstuff false init ≡ record { bytes = []; fault = none }
+  silent : (rule : Escapes) → unstuff rule false init ≡ record { bytes = []; fault = none }
 
 last-of : (b : ℕ) (l : List ℕ) → Sent b l → LastOf l
 unfolding unstuff
-last-of b l start-escaped = record { init = 0x7D ∷ []; last = 0x5E; is = refl; silent = refl }
-last-of b l escape-escaped = record { init = 0x7D ∷ []; last = 0x5D; is = refl; silent = refl }
-last-of b l (as-it-is b′ e k) = record { init = []; last = b′; is = refl; silent = refl }
+last-of b l start-escaped = record { init = 0x7D ∷ []; last = 0x5E; is = refl; silent = λ rule. refl }
+last-of b l escape-escaped = record { init = 0x7D ∷ []; last = 0x5D; is = refl; silent = λ rule. refl }
+last-of b l (as-it-is b′ e k) = record { init = []; last = b′; is = refl; silent = λ rule. refl }
 
 -- a byte of a good frame is still missing
 held-few : (m rest : List ℕ) (end : ℕ → List ℕ → Judged) → checkOf m ≡ 0 → length rest < length m + 2
@@ -400,17 +440,17 @@ held-few m rest end h k =
     (le-leb 1 (length m) (sized .some), le-leb (length m) longest (sized .few), lt-ltb (length rest) (length m + 2) k)
 
 -- ASCII waits for the stop
-stop-decides : (m : List ℕ) → checkOf m ≡ 0 → Bytes (bodyOf m)
-    → judge Ascii (startOf Ascii ∷ coding Ascii (bodyOf m)) ≡ unfinished
-stop-decides m h b =
-    ap (judgeAfter Ascii) (sym (append-nil (coding Ascii (bodyOf m))))
-    ∙ judge-body Ascii m [] (good-length m h) b
-    ∙ ap (λ (l : List ℕ). atStop l (length m) (heldAfter m (recovered Ascii [] .bytes))) (stop-place m [])
+stop-decides : (rule : Escapes) (m : List ℕ) → checkOf m ≡ 0 → Bytes (bodyOf m)
+    → judge rule Ascii (startOf Ascii ∷ coding Ascii (bodyOf m)) ≡ unfinished
+stop-decides rule m h b =
+    ap (judgeAfter rule Ascii) (sym (append-nil (coding Ascii (bodyOf m))))
+    ∙ judge-body rule Ascii m [] (good-length m h) b
+    ∙ ap (λ (l : List ℕ). atStop l (length m) (heldAfter m (recovered rule Ascii [] .bytes))) (stop-place m [])
 
 -- THE FRAME'S LAST BYTE DECIDES: binary the last sum byte, ASCII the stop
-pub last-decides : (f : Framing) (m : List ℕ) → checkOf m ≡ 0 → Bytes (bodyOf m) → Last f m
+pub last-decides : (rule : Escapes) (f : Framing) (m : List ℕ) → checkOf m ≡ 0 → Bytes (bodyOf m) → Last rule f m
 unfolding frameOf coding flatMap
-last-decides Binary m h b =
+last-decides rule Binary m h b =
     let one = sumsOf (length m ∷ m) .one in
     let two = sumsOf (length m ∷ m) .two in
     let shorter = length m ∷ m ++ (one ∷ []) in
@@ -418,7 +458,7 @@ last-decides Binary m h b =
     let regroup : bodyOf m ≡ shorter ++ (two ∷ []) =
     ap (λ (l : List ℕ). length m ∷ l) (sym (append-assoc m (one ∷ []) (two ∷ []))) in
     let front = coding Binary shorter ++ end .init in
-    let bytes = recovers Binary shorter (end .init) (bytes-front shorter (two ∷ []) (subst Bytes regroup b)) in
+    let bytes = recovers rule Binary shorter (end .init) (bytes-front shorter (two ∷ []) (subst Bytes regroup b)) in
     record {
       front = front;
       last = end .last;
@@ -430,8 +470,8 @@ last-decides Binary m h b =
           ∙ sym (append-assoc (coding Binary shorter) (end .init) (end .last ∷ [])));
       before =
           ap (λ (r : Recovered). frameJudged (r .bytes) (r .fault) (ended Binary front))
-          (bytes ∙ ap (alsoAll shorter) (end .silent))
+          (bytes ∙ ap (alsoAll shorter) (end .silent rule))
           ∙ held-few m (m ++ (one ∷ []) ++ []) (ended Binary front) h (rw (append-nil, length-append) (omega arith));
     }
-last-decides Ascii m h b =
-    record { front = coding Ascii (bodyOf m); last = 0x0D; is = refl; before = stop-decides m h b }
+last-decides rule Ascii m h b =
+    record { front = coding Ascii (bodyOf m); last = 0x0D; is = refl; before = stop-decides rule m h b }

@@ -7,6 +7,7 @@ pub mod Refusals
 pub mod Framings
 pub mod Judge
 pub mod Decided
+pub mod Strict
 pub mod Stream
 pub mod Replies
 pub mod Table

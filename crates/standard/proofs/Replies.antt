@@ -71,14 +71,15 @@ module _ (verdict t : ℕ) where
   unfolding replyOf
   reply-negative lo hi = rw (le-leb 1 verdict lo, le-leb verdict 5 hi)
 
-  -- "Refusals 9 to 12, and any number not in the table, get no reply"
-  pub reply-none : 9 ≤ verdict → replyOf verdict t ≡ 0
+  -- "Refusals 9 to 12, and any number not in the table, get no reply"; 15 is a verdict, and computes
+  pub reply-none : 9 ≤ verdict → (verdict ≡ 15 → ⊥) → replyOf verdict t ≡ 0
   unfolding replyOf
-  reply-none h =
+  reply-none h other =
       rw (
         le-leb 1 verdict (omega arith),
         lt-leb verdict 5 (omega arith),
         ne-eqb verdict 7 (λ e. omega arith),
+        ne-eqb verdict 15 other,
         ne-eqb verdict 6 (λ e. omega arith),
         ne-eqb verdict 8 (λ e. omega arith),
         ne-eqb verdict 0 (λ e. omega arith),

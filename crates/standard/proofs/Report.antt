@@ -10,12 +10,14 @@ use mathlib.Core.List.{List, [], _∷_, _++_, map, flatMap, append-nil}
 use lib.Dec.{eqb, ltb, eqb·suc-zero}
 use lib.ListN.{length, take, drop, replicate, length-append, length-take, length-replicate}
 use lib.Seq.{take-all, take-append-seam}
-use borrow.Author.Tests.{lt-ltb, le-ltb}
+use borrow.Author.Tests.{lt-ltb, le-ltb, leb-true}
 use Rattle.standard.specs.declared.Framing.{Framing}
 use Rattle.standard.specs.declared.Framing.the-variants.{Binary, Ascii}
+use Rattle.standard.specs.declared.Escapes.{Escapes}
+use Rattle.standard.specs.declared.Escapes.the-variants.{Strict, Lenient}
 use Rattle.standard.specs.Words.{upTo, total}
 use Rattle.standard.specs.Messages.{lengthOk, among, messageTests}
-use Rattle.standard.specs.Framing.{startOf, unstuff, recovered, digitsOf, pairs}
+use Rattle.standard.specs.Framing.{startOf, unstuff, recovered, digitsOf, pairs, noDigit}
 use Rattle.standard.specs.Judge.{Handed, handing, Judged, decided, unfinished, carriesType, sumsDiffer, wholeOf}
 use Rattle.standard.specs.Judge.{atStop, ended, stuck, plain, frameJudged, judge}
 use Rattle.standard.specs.Stream.{upToStart, partsOf, partHands, partsHand, handedOf}
@@ -23,8 +25,8 @@ use Rattle.standard.specs.Replies.{replyOf}
 use Rattle.standard.specs.Table.{fresh, tableAfter}
 use Rattle.standard.specs.Overview.{heardOf, faultedOf, groupNumbers}
 use Rattle.standard.proofs.Words.{flatMap-append}
-use Rattle.standard.proofs.Refusals.{first-within}
-use Rattle.standard.proofs.Judge.{unstuff-fault}
+use Rattle.standard.proofs.Refusals.{first-within, ofTheStream, up-to-8}
+use Rattle.standard.proofs.Judge.{FaultIs, never, stops, unstuff-fault, lenient-fault, recovered-fault}
 use Rattle.standard.specs.Report.{mostRead, decimal, typeText, replyText, lineWith, verdictLine, countsLine}
 use Rattle.standard.specs.Report.{groupLine, reportOn, reportOf, longestReport, reportedOf, afterReport}
 
@@ -35,46 +37,54 @@ unfolding flatMap total
 flatMap-le f most h [] = zero-le
 flatMap-le f most h (x ∷ l) = let a = h x in let b = flatMap-le f most h l in simp length-append (omega arith)
 
--- ---- a verdict of a stream is one of 0 to 8
+-- ---- a verdict of a stream is one of 0 to 8, or by the strict rule 15
 
-abbrev OnSheet : Judged → Type 0
-OnSheet (decided h) = h .verdict ≤ 8
-OnSheet unfinished = Unit
+abbrev pub OnSheet : Escapes → Judged → Type 0
+OnSheet rule (decided h) = ofTheStream rule (h .verdict) ≡ true
+OnSheet rule unfinished = Unit
 
-stop-sheet : (cs : List ℕ) (L : ℕ) (rest : List ℕ) → OnSheet (atStop cs L rest)
+stop-sheet : (rule : Escapes) (cs : List ℕ) (L : ℕ) (rest : List ℕ) → OnSheet rule (atStop cs L rest)
 unfolding wholeOf
-stop-sheet [] L rest = tt
-stop-sheet (c ∷ cs) L rest =
-    first-within 8 ((not (eqb c 0x0D), 3) ∷ (sumsDiffer L rest, 5) ∷ messageTests (take L rest)) refl
+stop-sheet rule [] L rest = tt
+stop-sheet rule (c ∷ cs) L rest =
+    up-to-8 rule (first-within 8 ((not (eqb c 0x0D), 3) ∷ (sumsDiffer L rest, 5) ∷ messageTests (take L rest)) refl)
 
-ended-sheet : (f : Framing) (after : List ℕ) (L : ℕ) (rest : List ℕ) → OnSheet (ended f after L rest)
+ended-sheet : (rule : Escapes) (f : Framing) (after : List ℕ) (L : ℕ) (rest : List ℕ)
+    → OnSheet rule (ended f after L rest)
 unfolding wholeOf
-ended-sheet Binary after L rest = first-within 8 ((sumsDiffer L rest, 5) ∷ messageTests (take L rest)) refl
-ended-sheet Ascii after L rest = stop-sheet (drop (2 * (L + 3)) after) L rest
+ended-sheet rule Binary after L rest =
+    up-to-8 rule (first-within 8 ((sumsDiffer L rest, 5) ∷ messageTests (take L rest)) refl)
+ended-sheet rule Ascii after L rest = stop-sheet rule (drop (2 * (L + 3)) after) L rest
 
-digits-sheet : (t : Bool) → OnSheet (stuck (cond t (some 2) none))
-digits-sheet true = omega arith
-digits-sheet false = tt
-
-fault-sheet : (f : Framing) (after : List ℕ) → OnSheet (stuck (recovered f after .fault))
-fault-sheet Binary after = rw unstuff-fault tt
-fault-sheet Ascii after = digits-sheet (ltb (length (digitsOf after)) (length after))
-
-frame-sheet : (bytes : List ℕ) (fault : Option ℕ) (end : ℕ → List ℕ → Judged) → OnSheet (stuck fault)
-    → ((L : ℕ) (rest : List ℕ) → OnSheet (end L rest)) → OnSheet (frameJudged bytes fault end)
-frame-sheet [] fault end s e = s
-frame-sheet (L ∷ rest) fault end s e = by (lengthOk L) (ltb (length rest) (L + 2))
+fault-sheet : (rule : Escapes) (f : Framing) (after : List ℕ) → OnSheet rule (stuck (recovered rule f after .fault))
+fault-sheet Lenient Binary after = rw lenient-fault tt
+fault-sheet Strict Binary after = go (unstuff Strict false after .fault) (unstuff-fault Strict false after)
   where
-    by : (a b : Bool) → OnSheet (cond a (cond b (stuck fault) (end L rest)) (plain 4))
-    by false b = omega arith
+    go : (fault : Option ℕ) → FaultIs 15 fault → OnSheet Strict (stuck fault)
+    go fault (never n) = tt
+    go fault (stops n) = refl
+fault-sheet rule Ascii after = go (noDigit after) (recovered-fault rule Ascii after)
+  where
+    go : (fault : Option ℕ) → FaultIs 2 fault → OnSheet rule (stuck fault)
+    go fault (never n) = tt
+    go fault (stops n) = up-to-8 rule (omega arith)
+
+frame-sheet : (rule : Escapes) (bytes : List ℕ) (fault : Option ℕ) (end : ℕ → List ℕ → Judged)
+    → OnSheet rule (stuck fault) → ((L : ℕ) (rest : List ℕ) → OnSheet rule (end L rest))
+    → OnSheet rule (frameJudged bytes fault end)
+frame-sheet rule [] fault end s e = s
+frame-sheet rule (L ∷ rest) fault end s e = by (lengthOk L) (ltb (length rest) (L + 2))
+  where
+    by : (a b : Bool) → OnSheet rule (cond a (cond b (stuck fault) (end L rest)) (plain 4))
+    by false b = up-to-8 rule (omega arith)
     by true true = s
     by true false = e L rest
 
-pub judge-sheet : (f : Framing) (part : List ℕ) → OnSheet (judge f part)
-judge-sheet f part =
+pub judge-sheet : (rule : Escapes) (f : Framing) (part : List ℕ) → OnSheet rule (judge rule f part)
+judge-sheet rule f part =
     let after = drop 1 part in
-    let r = recovered f after in
-    frame-sheet (r .bytes) (r .fault) (ended f after) (fault-sheet f after) (ended-sheet f after)
+    let r = recovered rule f after in
+    frame-sheet rule (r .bytes) (r .fault) (ended f after) (fault-sheet rule f after) (ended-sheet rule f after)
 
 -- ---- how long the lines are
 
@@ -111,24 +121,24 @@ one-length : (h : Handed) → h .verdict ≤ 8 → length (flatMap verdictLine (
 unfolding flatMap
 one-length h small = ap length (append-nil (verdictLine h)) ∙ verdict-length h small
 
-part-length : (j : Judged) (later : List (List ℕ)) → OnSheet j
+part-length : (j : Judged) (later : List (List ℕ)) → OnSheet Lenient j
     → length (flatMap verdictLine (partHands j later)) ≡ 8 * length (partHands j later)
 unfolding flatMap
-part-length (decided h) later small = one-length h small
+part-length (decided h) later small = one-length h (leb-true (h .verdict) 8 small)
 part-length unfinished [] small = refl
 part-length unfinished (part ∷ later) small = one-length (handing 1 []) (omega arith)
 
 parts-length : (f : Framing) (parts : List (List ℕ))
-    → length (flatMap verdictLine (partsHand f parts)) ≡ 8 * length (partsHand f parts)
+    → length (flatMap verdictLine (partsHand Lenient f parts)) ≡ 8 * length (partsHand Lenient f parts)
 unfolding flatMap
 parts-length f [] = refl
 parts-length f (part ∷ later) =
-    let a = part-length (judge f part) later (judge-sheet f part) in
+    let a = part-length (judge Lenient f part) later (judge-sheet Lenient f part) in
     let b = parts-length f later in
     simp (flatMap-append, length-append) (omega arith)
 
 verdicts-length : (f : Framing) (stream : List ℕ)
-    → length (flatMap verdictLine (handedOf f stream)) ≡ 8 * length (handedOf f stream)
+    → length (flatMap verdictLine (handedOf Lenient f stream)) ≡ 8 * length (handedOf Lenient f stream)
 verdicts-length f stream = parts-length f (partsOf (startOf f) stream)
 
 decimal-length : (n : ℕ) → length (decimal n) ≤ 2
@@ -156,40 +166,40 @@ groups-length t = flatMap-le (groupLine t) (λ k. length (decimal k) + 9) (group
 -- ---- how many verdicts there are
 
 -- a start byte and nothing after it
-alone : (f : Framing) (b : ℕ) → judge f (b ∷ []) ≡ unfinished
+alone : (rule : Escapes) (f : Framing) (b : ℕ) → judge rule f (b ∷ []) ≡ unfinished
 unfolding unstuff digitsOf pairs
-alone Binary b = refl
-alone Ascii b = refl
+alone rule Binary b = refl
+alone rule Ascii b = refl
 
 part-one : (j : Judged) (later : List (List ℕ)) → length (partHands j later) ≤ 1
 part-one (decided h) later = omega arith
 part-one unfinished [] = zero-le
 part-one unfinished (part ∷ later) = omega arith
 
-few-after : (f : Framing) (b : ℕ) (bs : List ℕ) → length (handedOf f (b ∷ bs)) ≤ length bs
-few-after f b [] = by (eqb b (startOf f))
+few-after : (rule : Escapes) (f : Framing) (b : ℕ) (bs : List ℕ) → length (handedOf rule f (b ∷ bs)) ≤ length bs
+few-after rule f b [] = by (eqb b (startOf f))
   where
-    by : (t : Bool) → length (partsHand f (cond t ((b ∷ []) ∷ []) [])) ≤ 0
+    by : (t : Bool) → length (partsHand rule f (cond t ((b ∷ []) ∷ []) [])) ≤ 0
     by true = rw alone zero-le
     by false = zero-le
-few-after f b (c ∷ cs) = by (eqb b (startOf f)) (partsOf (startOf f) (c ∷ cs)) (few-after f c cs)
+few-after rule f b (c ∷ cs) = by (eqb b (startOf f)) (partsOf (startOf f) (c ∷ cs)) (few-after rule f c cs)
   where
-    by : (t : Bool) (later : List (List ℕ)) → length (partsHand f later) ≤ length cs
-        → length (partsHand f (cond t ((b ∷ upToStart (startOf f) (c ∷ cs)) ∷ later) later)) ≤ suc (length cs)
+    by : (t : Bool) (later : List (List ℕ)) → length (partsHand rule f later) ≤ length cs
+        → length (partsHand rule f (cond t ((b ∷ upToStart (startOf f) (c ∷ cs)) ∷ later) later)) ≤ suc (length cs)
     by true later h =
-        let a = part-one (judge f (b ∷ upToStart (startOf f) (c ∷ cs))) later in
+        let a = part-one (judge rule f (b ∷ upToStart (startOf f) (c ∷ cs))) later in
         simp length-append (omega arith)
     by false later h = omega arith
 
 -- each start byte gives at most one verdict, and one that ends the stream none
-verdicts-few : (f : Framing) (stream : List ℕ) → length (handedOf f stream) ≤ length stream - 1
-verdicts-few f [] = zero-le
-verdicts-few f (b ∷ bs) = let h = few-after f b bs in omega arith
+verdicts-few : (rule : Escapes) (f : Framing) (stream : List ℕ) → length (handedOf rule f stream) ≤ length stream - 1
+verdicts-few rule f [] = zero-le
+verdicts-few rule f (b ∷ bs) = let h = few-after rule f b bs in omega arith
 
 -- ---- the whole report
 
 report-length : (stream : List ℕ)
-    → let hs = handedOf Binary stream in
+    → let hs = handedOf Lenient Binary stream in
     length (reportOn hs) ≡ 8 * length hs + length (flatMap (groupLine (tableAfter fresh hs)) groupNumbers)
 unfolding reportOn
 report-length stream = let e = verdicts-length Binary stream in simp length-append (omega arith)
@@ -198,12 +208,12 @@ report-length stream = let e = verdicts-length Binary stream in simp length-appe
 pub room : (capture : List ℕ) → length (reportOf capture) ≤ longestReport
 room capture =
     let stream = take mostRead capture in
-    let few = verdicts-few Binary stream in
-    let groups = groups-length (tableAfter fresh (handedOf Binary stream)) in
+    let few = verdicts-few Lenient Binary stream in
+    let groups = groups-length (tableAfter fresh (handedOf Lenient Binary stream)) in
     omega (arith, report-length stream, length-take mostRead capture)
 
 -- of n + 1 start bytes each but the last is cut short, and nothing is heard
-starts-hand : (n : ℕ) → handedOf Binary (replicate (suc n) 0x7E) ≡ replicate n (handing 1 [])
+starts-hand : (n : ℕ) → handedOf Lenient Binary (replicate (suc n) 0x7E) ≡ replicate n (handing 1 [])
 unfolding unstuff
 starts-hand zero = refl
 starts-hand (suc n) = ap (λ hs. handing 1 [] ∷ hs) (starts-hand n)
@@ -217,7 +227,7 @@ fresh-length : length (flatMap (groupLine fresh) groupNumbers) ≡ 167
 unfolding flatMap upTo total heardOf fresh
 fresh-length = refl
 
-starts-length : (n : ℕ) → length (reportOn (handedOf Binary (replicate (suc n) 0x7E))) ≡ 8 * n + 167
+starts-length : (n : ℕ) → length (reportOn (handedOf Lenient Binary (replicate (suc n) 0x7E))) ≡ 8 * n + 167
 starts-length n =
     let many = ap length (starts-hand n) ∙ length-replicate n (handing 1 []) in
     let table = ap (tableAfter fresh) (starts-hand n) ∙ starts-leave fresh n in
@@ -229,7 +239,7 @@ pub room-reached : (n : ℕ) → suc n ≡ mostRead → length (reportOf (replic
 room-reached n h =
     let starts : List ℕ = replicate (suc n) 0x7E in
     let fits : length starts ≤ mostRead = omega (arith, h, length-replicate {A = ℕ} (suc n) 0x7E) in
-    let all = ap (λ l. length (reportOn (handedOf Binary l))) (take-all mostRead starts fits) in
+    let all = ap (λ l. length (reportOn (handedOf Lenient Binary l))) (take-all mostRead starts fits) in
     omega (arith, all, starts-length n, h)
 
 -- NO LESS ROOM is enough
@@ -256,6 +266,6 @@ report-begins capture out h =
 -- ---- who carries a type byte
 
 -- "for 0, 6, 7, 8", of all verdicts and refusals
-pub carriers : map carriesType (upTo 15) ≡ map (λ v. among v (0 ∷ 6 ∷ 7 ∷ 8 ∷ [])) (upTo 15)
+pub carriers : map carriesType (upTo 24) ≡ map (λ v. among v (0 ∷ 6 ∷ 7 ∷ 8 ∷ [])) (upTo 24)
 unfolding upTo
 carriers = refl

@@ -9,6 +9,7 @@ use lib.Dec.{eqb}
 use lib.ListN.{length, length-append}
 use Rattle.standard.specs.declared.Framing.{Framing}
 use Rattle.standard.specs.declared.Framing.the-variants.{Binary, Ascii}
+use Rattle.standard.specs.declared.Escapes.{Escapes}
 use Rattle.standard.specs.declared.Said.{Said}
 use Rattle.standard.specs.declared.Said.the-variants.{Silent, Gave}
 use Rattle.standard.specs.Messages.{lengthOk, among, checkOf}
@@ -40,35 +41,35 @@ no-start f m =
     no-stop Ascii = refl
 
 -- so it is a part that is decided
-judged : (f : Framing) (m : List ℕ) → lengthOk (length m) ≡ true → Bytes m
-    → judge f (startOf f ∷ coding f (bodyOf m) ++ stopOf f) ≡ decided (handing (checkOf m) m)
+judged : (rule : Escapes) (f : Framing) (m : List ℕ) → lengthOk (length m) ≡ true → Bytes m
+    → judge rule f (startOf f ∷ coding f (bodyOf m) ++ stopOf f) ≡ decided (handing (checkOf m) m)
 unfolding frameOf
-judged f m h b = rw append-nil at (judge-every f m [] h (body-bytes m h b))
+judged rule f m h b = rw append-nil at (judge-every rule f m [] h (body-bytes m h b))
 
-judged-good : (f : Framing) (m : List ℕ) → checkOf m ≡ 0 → Bytes m
-    → judge f (startOf f ∷ coding f (bodyOf m) ++ stopOf f) ≡ decided (handing 0 m)
-judged-good f m h b = judged f m (good-length m h) b ∙ ap (λ (n : ℕ). decided (handing n m)) h
+judged-good : (rule : Escapes) (f : Framing) (m : List ℕ) → checkOf m ≡ 0 → Bytes m
+    → judge rule f (startOf f ∷ coding f (bodyOf m) ++ stopOf f) ≡ decided (handing 0 m)
+judged-good rule f m h b = judged rule f m (good-length m h) b ∙ ap (λ (n : ℕ). decided (handing n m)) h
 
 -- it hands out its message, and then what follows it hands out its own
-pub handed-frame : (f : Framing) (m q : List ℕ) → checkOf m ≡ 0 → Bytes m
-    → handedOf f (frameOf f m ++ q) ≡ handing 0 m ∷ handedOf f q
+pub handed-frame : (rule : Escapes) (f : Framing) (m q : List ℕ) → checkOf m ≡ 0 → Bytes m
+    → handedOf rule f (frameOf f m ++ q) ≡ handing 0 m ∷ handedOf rule f q
 unfolding frameOf
-handed-frame f m q h b =
-    handed-part f (coding f (bodyOf m) ++ stopOf f) q (handing 0 m) (no-start f m) (judged-good f m h b)
+handed-frame rule f m q h b =
+    handed-part rule f (coding f (bodyOf m) ++ stopOf f) q (handing 0 m) (no-start f m) (judged-good rule f m h b)
 
 -- WHATEVER STANDS BEFORE AND AFTER IT: the bytes before are as if its start byte were their last
-pub handed-every : (f : Framing) (p m q : List ℕ) → lengthOk (length m) ≡ true → Bytes m
-    → handedOf f (p ++ (frameOf f m ++ q))
-    ≡ handedOf f (p ++ (startOf f ∷ [])) ++ (handing (checkOf m) m ∷ handedOf f q)
+pub handed-every : (rule : Escapes) (f : Framing) (p m q : List ℕ) → lengthOk (length m) ≡ true → Bytes m
+    → handedOf rule f (p ++ (frameOf f m ++ q))
+    ≡ handedOf rule f (p ++ (startOf f ∷ [])) ++ (handing (checkOf m) m ∷ handedOf rule f q)
 unfolding frameOf
-handed-every f p m q h b =
-    handed-amid-part f p (coding f (bodyOf m) ++ stopOf f) q (handing (checkOf m) m) (no-start f m) (judged f m h b)
+handed-every rule f p m q h b =
+    handed-amid-part rule f p (coding f (bodyOf m) ++ stopOf f) q (handing (checkOf m) m) (no-start f m) (judged rule f m h b)
 
-pub handed-amid : (f : Framing) (p m q : List ℕ) → checkOf m ≡ 0 → Bytes m
-    → handedOf f (p ++ (frameOf f m ++ q)) ≡ handedOf f (p ++ (startOf f ∷ [])) ++ (handing 0 m ∷ handedOf f q)
-handed-amid f p m q h b =
-    handed-every f p m q (good-length m h) b
-    ∙ ap (λ (n : ℕ). handedOf f (p ++ (startOf f ∷ [])) ++ (handing n m ∷ handedOf f q)) h
+pub handed-amid : (rule : Escapes) (f : Framing) (p m q : List ℕ) → checkOf m ≡ 0 → Bytes m
+    → handedOf rule f (p ++ (frameOf f m ++ q)) ≡ handedOf rule f (p ++ (startOf f ∷ [])) ++ (handing 0 m ∷ handedOf rule f q)
+handed-amid rule f p m q h b =
+    handed-every rule f p m q (good-length m h) b
+    ∙ ap (λ (n : ℕ). handedOf rule f (p ++ (startOf f ∷ [])) ++ (handing n m ∷ handedOf rule f q)) h
 
 -- ---- how many verdicts
 
@@ -77,10 +78,10 @@ one-each (decided h) later = refl
 one-each unfinished [] = refl
 one-each unfinished (part ∷ later) = refl
 
-parts-count : (f : Framing) (ps : List (List ℕ)) → length (partsHand f ps) + lastOpen f ps ≡ length ps
-parts-count f [] = refl
-parts-count f (p ∷ ps) =
-    omega (arith, length-append (partHands (judge f p) ps) (partsHand f ps), one-each (judge f p) ps, parts-count f ps)
+parts-count : (rule : Escapes) (f : Framing) (ps : List (List ℕ)) → length (partsHand rule f ps) + lastOpen rule f ps ≡ length ps
+parts-count rule f [] = refl
+parts-count rule f (p ∷ ps) =
+    omega (arith, length-append (partHands (judge rule f p) ps) (partsHand rule f ps), one-each (judge rule f p) ps, parts-count rule f ps)
 
 parts-starts : (x : ℕ) (bs : List ℕ) → length (partsOf x bs) ≡ startsOf x bs
 parts-starts x [] = refl
@@ -93,6 +94,6 @@ parts-starts x (b ∷ bs) = by-case (eqb b x) (parts-starts x bs)
     by-case false h = h
 
 -- every start byte has one verdict, but for the last if its frame is still open at the end
-pub verdicts-count : (f : Framing) (bs : List ℕ)
-    → length (handedOf f bs) + lastOpen f (partsOf (startOf f) bs) ≡ startsOf (startOf f) bs
-verdicts-count f bs = parts-count f (partsOf (startOf f) bs) ∙ parts-starts (startOf f) bs
+pub verdicts-count : (rule : Escapes) (f : Framing) (bs : List ℕ)
+    → length (handedOf rule f bs) + lastOpen rule f (partsOf (startOf f) bs) ≡ startsOf (startOf f) bs
+verdicts-count rule f bs = parts-count rule f (partsOf (startOf f) bs) ∙ parts-starts (startOf f) bs

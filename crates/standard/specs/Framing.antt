@@ -8,8 +8,10 @@ use lib.Dec.{eqb, leb, ltb}
 use lib.ListN.{length}
 use Rattle.standard.specs.declared.Framing.{Framing}
 use Rattle.standard.specs.declared.Framing.the-variants.{Binary, Ascii}
+use Rattle.standard.specs.declared.Escapes.{Escapes}
+use Rattle.standard.specs.declared.Escapes.the-variants.{Strict, Lenient}
 use Rattle.standard.specs.Sums.{sumsOf}
-use Rattle.standard.specs.Messages.{longestKnown}
+use Rattle.standard.specs.Messages.{longestKnown, among}
 
 -- "Start 7Eh", "Start 0Ah"
 abbrev pub startOf : Framing → ℕ
@@ -65,11 +67,24 @@ pub record Recovered : Type 0 where
 abbrev pub also : ℕ → Recovered → Recovered
 also b r = record { bytes = b ∷ r .bytes; fault = r .fault }
 
--- "a 7Dh is dropped and the next byte is XORed with 20h, whichever byte that is" (`true`: such a 7Dh came just before)
-unfoldable pub unstuff : Bool → List ℕ → Recovered
-unstuff escape [] = record { bytes = []; fault = none }
-unstuff true (b ∷ bs) = also (bitXor b 0x20) (unstuff false bs)
-unstuff false (b ∷ bs) = let rest = unstuff (eqb b 0x7D) bs in cond (eqb b 0x7D) rest (also b rest)
+-- the bytes for which an escape is needed, "7Eh and 7Dh", as they come after it
+abbrev pub needed : ℕ → Bool
+needed b = among b (0x5E ∷ 0x5D ∷ [])
+
+-- document 02, No. 5: by the strict rule no other byte may follow a 7Dh. (A 7Eh is in no part: it starts the next)
+abbrev pub mayFollow : Escapes → ℕ → Bool
+mayFollow Strict b = needed b
+mayFollow Lenient b = true
+
+abbrev pub stopped : ℕ → Recovered
+stopped verdict = record { bytes = []; fault = some verdict }
+
+-- "a 7Dh is dropped and the next byte is XORed with 20h, whichever byte that is" (`true`: such a 7Dh came just before);
+-- 15, "bad escape", at a byte that may not follow it
+unfoldable pub unstuff : Escapes → Bool → List ℕ → Recovered
+unstuff rule escape [] = record { bytes = []; fault = none }
+unstuff rule true (b ∷ bs) = cond (mayFollow rule b) (also (bitXor b 0x20) (unstuff rule false bs)) (stopped 15)
+unstuff rule false (b ∷ bs) = let rest = unstuff rule (eqb b 0x7D) bs in cond (eqb b 0x7D) rest (also b rest)
 
 -- a digit's value, "from 0-9 and A-F", and none for any other byte
 abbrev pub valueOf : ℕ → Option ℕ
@@ -94,6 +109,20 @@ pairs (h ∷ l ∷ ds) = (h * 16 + l) ∷ pairs ds
 abbrev pub noDigit : List ℕ → Option ℕ
 noDigit cs = cond (ltb (length (digitsOf cs)) (length cs)) (some 2) none
 
-abbrev pub recovered : Framing → List ℕ → Recovered
-recovered Binary after = unstuff false after
-recovered Ascii after = record { bytes = pairs (digitsOf after); fault = noDigit after }
+-- "In ASCII the rule has no effect"
+abbrev pub recovered : Escapes → Framing → List ℕ → Recovered
+recovered rule Binary after = unstuff rule false after
+recovered rule Ascii after = record { bytes = pairs (digitsOf after); fault = noDigit after }
+
+-- ---- escapes that were needed
+
+-- "its only escapes were those for 7Eh and 7Dh" (`true`: a 7Dh came just before)
+unfoldable pub onlyNeeded : Bool → List ℕ → Bool
+onlyNeeded escape [] = true
+onlyNeeded true (b ∷ bs) = needed b && onlyNeeded false bs
+onlyNeeded false (b ∷ bs) = onlyNeeded (eqb b 0x7D) bs
+
+-- of the bytes after a start; ASCII has no escapes
+abbrev pub escapesNeeded : Framing → List ℕ → Bool
+escapesNeeded Binary after = onlyNeeded false after
+escapesNeeded Ascii after = true

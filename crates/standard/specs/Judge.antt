@@ -8,6 +8,7 @@ use lib.Dec.{eqb, leb, ltb}
 use lib.ListN.{length, take, drop, getD}
 use Rattle.standard.specs.declared.Framing.{Framing}
 use Rattle.standard.specs.declared.Framing.the-variants.{Binary, Ascii}
+use Rattle.standard.specs.declared.Escapes.{Escapes}
 use Rattle.standard.specs.declared.Verdict.{Verdict}
 use Rattle.standard.specs.declared.Said.{Said}
 use Rattle.standard.specs.declared.Said.the-variants.{Silent, Gave}
@@ -75,12 +76,13 @@ frameJudged (L ∷ rest) fault end =
     cond (lengthOk L) (cond (ltb (length rest) (L + 2)) (stuck fault) (end L rest)) (plain 4)
 
 -- the judgement of the bytes after a start byte
-abbrev pub judgeAfter : Framing → List ℕ → Judged
-judgeAfter f after = frameJudged (recovered f after .bytes) (recovered f after .fault) (ended f after)
+abbrev pub judgeAfter : Escapes → Framing → List ℕ → Judged
+judgeAfter rule f after =
+    frameJudged (recovered rule f after .bytes) (recovered rule f after .fault) (ended f after)
 
--- THE JUDGEMENT of a part
-abbrev pub judge : Framing → List ℕ → Judged
-judge f part = judgeAfter f (drop 1 part)
+-- THE JUDGEMENT of a part, by a rule of escapes
+abbrev pub judge : Escapes → Framing → List ℕ → Judged
+judge rule f part = judgeAfter rule f (drop 1 part)
 
 -- ---- the same as code says it
 

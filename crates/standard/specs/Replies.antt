@@ -22,10 +22,11 @@ goodReply t =
     (cond (within 0x20 (numberOf t) 0x3F) 0x1F
     (cond (flagOf t) 0x1D 0))
 
--- "Verdicts 1 to 5 and 7: Negative Acknowledge 1Eh. Verdicts 6 and 8: Rejected 1Fh, flag set or not." Verdict 0: as
--- above, for a number that is one of the 41. "Refusals 9 to 12, and any number not in the table, get no reply."
+-- "Verdicts 1 to 5 and 7: Negative Acknowledge 1Eh", and 15, by document 02, No. 5. "Verdicts 6 and 8: Rejected 1Fh,
+-- flag set or not." Verdict 0: as above, for a number that is one of the 41. "Refusals 9 to 12, and any number not in
+-- the table, get no reply."
 unfoldable pub replyOf : ℕ → ℕ → ℕ
 replyOf verdict t =
-    cond (within 1 verdict 5 || eqb verdict 7) 0x1E
+    cond (within 1 verdict 5 || among verdict (7 ∷ 15 ∷ [])) 0x1E
     (cond (among verdict (6 ∷ 8 ∷ [])) 0x1F
     (cond (eqb verdict 0) (cond (recognised t) (goodReply t) 0) 0))

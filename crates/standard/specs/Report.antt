@@ -6,6 +6,7 @@ use mathlib.Core.List.{List, [], _∷_, _++_, flatMap}
 use lib.Dec.{eqb, ltb}
 use lib.ListN.{length, take}
 use Rattle.standard.specs.declared.Framing.the-variants.{Binary}
+use Rattle.standard.specs.declared.Escapes.the-variants.{Lenient}
 use Rattle.standard.specs.declared.Written.{Written}
 use Rattle.standard.specs.Words.{laid}
 use Rattle.standard.specs.Framing.{twoDigits}
@@ -61,9 +62,9 @@ groupLine t k = countsLine k (heardOf t k) (faultedOf t k)
 unfoldable pub reportOn : List Handed → List ℕ
 reportOn hs = flatMap verdictLine hs ++ flatMap (groupLine (tableAfter fresh hs)) groupNumbers
 
--- THE REPORT on a capture
+-- THE REPORT on a capture, which is read by the old rule of escapes (document 02, No. 5)
 abbrev pub reportOf : List ℕ → List ℕ
-reportOf capture = reportOn (handedOf Binary (take mostRead capture))
+reportOf capture = reportOn (handedOf Lenient Binary (take mostRead capture))
 
 -- ---- the report in a lent buffer
 

@@ -1,10 +1,12 @@
 -- Demand 3: an uncut stream, split before every start byte, and what its parts hand out. Assumes nothing.
 use Prim.Native.Nat.{ℕ, suc, _+_}
-use mathlib.Core.Bool.{cond}
+use mathlib.Core.Bool.{Bool, true, cond, _&&_}
 use mathlib.Core.List.{List, [], _∷_, _++_}
 use lib.Dec.{eqb}
+use lib.ListN.{drop}
 use Rattle.standard.specs.declared.Framing.{Framing}
-use Rattle.standard.specs.Framing.{startOf}
+use Rattle.standard.specs.declared.Escapes.{Escapes}
+use Rattle.standard.specs.Framing.{startOf, escapesNeeded}
 use Rattle.standard.specs.Judge.{Handed, Judged, decided, unfinished, handing, judge}
 
 -- the bytes before the next start byte, or all
@@ -23,13 +25,13 @@ partHands (decided h) later = h ∷ []
 partHands unfinished [] = []
 partHands unfinished (part ∷ later) = handing 1 [] ∷ []
 
-abbrev pub partsHand : Framing → List (List ℕ) → List Handed
-partsHand f [] = []
-partsHand f (part ∷ later) = partHands (judge f part) later ++ partsHand f later
+abbrev pub partsHand : Escapes → Framing → List (List ℕ) → List Handed
+partsHand rule f [] = []
+partsHand rule f (part ∷ later) = partHands (judge rule f part) later ++ partsHand rule f later
 
 -- THE VERDICTS, messages and type bytes of an uncut stream
-abbrev pub handedOf : Framing → List ℕ → List Handed
-handedOf f stream = partsHand f (partsOf (startOf f) stream)
+abbrev pub handedOf : Escapes → Framing → List ℕ → List Handed
+handedOf rule f stream = partsHand rule f (partsOf (startOf f) stream)
 
 -- ---- how many verdicts
 
@@ -44,6 +46,16 @@ openOf (decided h) later = 0
 openOf unfinished [] = 1
 openOf unfinished (part ∷ later) = 0
 
-abbrev pub lastOpen : Framing → List (List ℕ) → ℕ
-lastOpen f [] = 0
-lastOpen f (part ∷ later) = openOf (judge f part) later + lastOpen f later
+abbrev pub lastOpen : Escapes → Framing → List (List ℕ) → ℕ
+lastOpen rule f [] = 0
+lastOpen rule f (part ∷ later) = openOf (judge rule f part) later + lastOpen rule f later
+
+-- ---- escapes that were needed
+
+abbrev pub partsNeeded : Framing → List (List ℕ) → Bool
+partsNeeded f [] = true
+partsNeeded f (part ∷ later) = escapesNeeded f (drop 1 part) && partsNeeded f later
+
+-- a stream whose every escape was needed: each in its part
+abbrev pub streamNeeded : Framing → List ℕ → Bool
+streamNeeded f stream = partsNeeded f (partsOf (startOf f) stream)

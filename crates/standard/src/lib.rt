@@ -18,6 +18,13 @@ pub enum Framing {
     Ascii,
 }
 
+// The rule of escapes of a binary line: which byte may follow a 7Dh. Strict: one that needs an
+// escape. Lenient, the old rule: any.
+pub enum Escapes {
+    Strict,
+    Lenient,
+}
+
 // Sum 1 and sum 2 of some bytes.
 pub struct Sums {
     pub one: u8,

@@ -7,6 +7,7 @@ use lib.ListN.{length, take, drop, length-append}
 use lib.Seq.{take-all, take-take, take-at}
 use borrow.Author.Tests.{lt-ltb, le-ltb}
 use Rattle.standard.specs.declared.Framing.the-variants.{Binary}
+use Rattle.standard.specs.declared.Escapes.the-variants.{Lenient}
 use Rattle.standard.specs.declared.Written.{Written}
 use Rattle.standard.specs.Words.{Put}
 use Rattle.standard.specs.Stream.{handedOf}
@@ -21,10 +22,10 @@ use Rattle.text.proofs.Turns.{linesOf}
 -- ---- a capture of which all the bytes count
 
 module _ (capture : List ℕ) (h : length capture ≤ mostRead) where
-  whole-report : reportOf capture ≡ reportOn (handedOf Binary capture)
-  whole-report = ap (λ l. reportOn (handedOf Binary l)) (take-all mostRead capture h)
+  whole-report : reportOf capture ≡ reportOn (handedOf Lenient Binary capture)
+  whole-report = ap (λ l. reportOn (handedOf Lenient Binary l)) (take-all mostRead capture h)
 
-  module _ (table : List ℕ) (e : table ≡ tableAfter fresh (handedOf Binary capture)) where
+  module _ (table : List ℕ) (e : table ≡ tableAfter fresh (handedOf Lenient Binary capture)) where
     abbrev groups : List ℕ
     groups = flatMap (groupLine table) groupNumbers
 
@@ -45,8 +46,8 @@ module _ (capture : List ℕ) (h : length capture ≤ mostRead) where
 -- the bytes beyond those that count change nothing
 pub first-count : (capture : List ℕ) (n : ℕ) → Counting capture n → reportOf (take n capture) ≡ reportOf capture
 first-count capture n c =
-    ap (λ l. reportOn (handedOf Binary (take mostRead l))) (c .counted)
-    ∙ ap (λ l. reportOn (handedOf Binary l)) (take-take mostRead mostRead capture (omega arith))
+    ap (λ l. reportOn (handedOf Lenient Binary (take mostRead l))) (c .counted)
+    ∙ ap (λ l. reportOn (handedOf Lenient Binary l)) (take-take mostRead mostRead capture (omega arith))
 
 -- a buffer that is too short is refused
 pub refused : (capture out : List ℕ) → length out < longestReport

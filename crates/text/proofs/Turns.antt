@@ -8,6 +8,7 @@ use mathlib.Core.List.{cons≢nil, nil≢cons, head-eq-of-cons-eq}
 use lib.ListN.{length, take, drop, length-append, length-drop, take-append-drop}
 use lib.Seq.{take-all, take-add}
 use Rattle.standard.specs.declared.Framing.the-variants.{Binary}
+use Rattle.standard.specs.declared.Escapes.the-variants.{Lenient}
 use Rattle.standard.specs.declared.Verdict.{Verdict}
 use Rattle.standard.specs.declared.Said.{Said}
 use Rattle.standard.specs.declared.Said.the-variants.{Silent, Gave}
@@ -23,7 +24,7 @@ use Rattle.reader.specs.Read.{freshReader, stateOf, readOf}
 use Rattle.reader.specs.Calls.{Reached, fresh, read, Uses}
 use Rattle.reader.proofs.Stream.Parts.{run}
 use Rattle.reader.proofs.State.Arrays.{Whole}
-use Rattle.reader.proofs.Stream.Used.{met, used-rule}
+use Rattle.reader.proofs.Stream.Used.{met, met-rule, used-rule}
 use Rattle.host.specs.Hear.{replyTo, heardBy, Hears}
 use Rattle.host.proofs.Answers.{heard-read}
 use Rattle.host.proofs.Demand3.{after-append, after-length}
@@ -33,18 +34,18 @@ use Rattle.text.specs.Lines.{handedWith, saidLines}
 abbrev pub restOf : List ℕ → ℕ → List ℕ
 restOf capture i = take (length capture - i) (drop i capture)
 
--- the lines of the verdicts of a stream
+-- the lines of the verdicts of a stream, by the old rule of escapes
 abbrev pub linesOf : List ℕ → List ℕ
-linesOf stream = flatMap verdictLine (handedOf Binary stream)
+linesOf stream = flatMap verdictLine (handedOf Lenient Binary stream)
 
 -- the first i bytes are heard: r is the reader then, and the table t was t₀
 pub record HeardTo (capture t₀ : List ℕ) (i : ℕ) (r : Reader) (t : List ℕ) : Type 0 where
   pub within : i ≤ length capture
-  pub reached : Reached Binary (take i capture) r
-  pub table : t ≡ tableAfter t₀ (handedOf Binary (take i capture))
+  pub reached : Reached Lenient Binary (take i capture) r
+  pub table : t ≡ tableAfter t₀ (handedOf Lenient Binary (take i capture))
 
 -- at the beginning nothing is
-pub heard-none : (capture t₀ : List ℕ) → HeardTo capture t₀ 0 (freshReader Binary) t₀
+pub heard-none : (capture t₀ : List ℕ) → HeardTo capture t₀ 0 (freshReader Lenient Binary) t₀
 unfolding tableAfter
 heard-none capture t₀ = record { within = zero-le; reached = fresh; table = refl }
 
@@ -63,12 +64,12 @@ pub record Turn (capture t₀ : List ℕ) (i : ℕ) (said : Said) (reply used : 
 -- ---- one call
 
 -- a call with bytes to read uses one
-moves-by : (stream bs : List ℕ) (used : ℕ) (said : List Handed) → Uses Binary stream bs used said → 0 < length bs
+moves-by : (stream bs : List ℕ) (used : ℕ) (said : List Handed) → Uses Lenient Binary stream bs used said → 0 < length bs
     → 0 < used
 moves-by stream bs (suc n) said w h = omega arith
 moves-by stream bs zero said w h =
-    let before = handedOf Binary stream in
-    let same = append-nil before ∙ ap (handedOf Binary) (sym (append-nil stream)) ∙ w .verdict in
+    let before = handedOf Lenient Binary stream in
+    let same = append-nil before ∙ ap (handedOf Lenient Binary) (sym (append-nil stream)) ∙ w .verdict in
     absurd (omega (arith, w .or-all (sym (append-cancel-left before [] said same))))
 
 -- the line of at most one verdict
@@ -89,10 +90,11 @@ rest-is capture i = take-all (length capture - i) (drop i capture) (rw length-dr
 lines-within : (capture t₀ : List ℕ) (i : ℕ) {r : Reader} {t : List ℕ} → HeardTo capture t₀ i r t
     → length (linesOf (take i capture)) ≤ length (linesOf capture)
 lines-within capture t₀ i {r} to =
-    let first = handedOf Binary (take i capture) in
-    let later = run (stateOf r) (drop i capture) in
-    let whole : handedOf Binary capture ≡ first ++ later =
-    ap (handedOf Binary) (sym (take-append-drop i capture)) ∙ met (to .reached) .goes-on (drop i capture)
+    let first = handedOf Lenient Binary (take i capture) in
+    let later = run Lenient (stateOf r) (drop i capture) in
+    let whole : handedOf Lenient Binary capture ≡ first ++ later =
+    ap (handedOf Lenient Binary) (sym (take-append-drop i capture))
+    ∙ rw (met-rule (to .reached)) at (met (to .reached) .goes-on (drop i capture))
     in
     let a = ap (λ l. length (flatMap verdictLine l)) whole in
     let b = ap length (flatMap-append verdictLine first later) in
@@ -101,13 +103,13 @@ lines-within capture t₀ i {r} to =
 -- the same call as a read of the bytes that are left
 module _ (capture t₀ : List ℕ) (i : ℕ) (r : Reader) (t : List ℕ) (to : HeardTo capture t₀ i r t) where
   abbrev first : List Handed
-  first = handedOf Binary (take i capture)
+  first = handedOf Lenient Binary (take i capture)
 
   -- what is handed out so far, with what the read says
-  hands : let a = readOf r (drop i capture) in handedOf Binary (take (i + a .used) capture) ≡ first ++ a .said
+  hands : let a = readOf r (drop i capture) in handedOf Lenient Binary (take (i + a .used) capture) ≡ first ++ a .said
   hands =
       let bs = drop i capture in
-      ap (handedOf Binary) (take-add i (readOf r bs .used) capture) ∙ used-rule (to .reached) bs .verdict
+      ap (handedOf Lenient Binary) (take-add i (readOf r bs .used) capture) ∙ used-rule (to .reached) bs .verdict
 
   -- it is heard to the read's last byte
   goes-on : let a = readOf r (drop i capture) in HeardTo capture t₀ (i + a .used) (a .reader) (tableAfter t (a .said))

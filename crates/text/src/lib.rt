@@ -1,6 +1,7 @@
 // The report that `nxread` prints, as bytes in a lent buffer. A function `put..` puts a part of it
 // at a place that has room for it, and answers with the place after it.
 use reader::Mode;
+use standard::Escapes;
 use standard::Framing;
 use standard::Reply;
 use standard::Said;
@@ -13,6 +14,7 @@ ghost use lib.ListN.{length};
 ghost use Rattle.standard.specs.Words.{Put};
 ghost use Rattle.standard.specs.Framing.{twoDigits};
 ghost use Rattle.standard.specs.declared.Framing.the-variants.{Binary};
+ghost use Rattle.standard.specs.declared.Escapes.the-variants.{Lenient};
 ghost use Rattle.standard.specs.Judge.{carriesType};
 ghost use Rattle.standard.specs.Stream.{handedOf};
 ghost use Rattle.standard.specs.Replies.{replyNumber};
@@ -119,12 +121,13 @@ fn put_said(out: &mut [u8], place: usize, said: Said, reply: Reply) -> usize
     }
 }
 
-// "For each verdict one line": the capture is heard once, into the table.
+// "For each verdict one line": the capture is heard once, into the table. "The old rule can be asked for;
+// `nxread` and the technicians' captures now do."
 fn put_verdicts(out: &mut [u8], table: &mut [u8], capture: &[u8]) -> usize
     requires { ⌜ length (now table) ≡ tableBytes ⌝ }
-    requires { ⌜ length (flatMap verdictLine (handedOf Binary (now capture))) ≤ length (now out) ⌝ }
-    ensures { λ r. ⌜ Put (now (out .entry)) 0 (flatMap verdictLine (handedOf Binary (now (capture .entry)))) (now (out .exit)) r ⌝ }
-    ensures { λ _. ⌜ now (table .exit) ≡ tableAfter (now (table .entry)) (handedOf Binary (now (capture .entry))) ⌝ }
+    requires { ⌜ length (flatMap verdictLine (handedOf Lenient Binary (now capture))) ≤ length (now out) ⌝ }
+    ensures { λ r. ⌜ Put (now (out .entry)) 0 (flatMap verdictLine (handedOf Lenient Binary (now (capture .entry)))) (now (out .exit)) r ⌝ }
+    ensures { λ _. ⌜ now (table .exit) ≡ tableAfter (now (table .entry)) (handedOf Lenient Binary (now (capture .entry))) ⌝ }
 {
     let mut mode = Mode::Skipping(Framing::Binary);
     let mut held = 0;
@@ -132,7 +135,14 @@ fn put_verdicts(out: &mut [u8], table: &mut [u8], capture: &[u8]) -> usize
     let mut used = 0;
     let mut place = 0;
     while used < capture.len() {
-        let answer = host::listen(mode, held, &mut frame, table, &capture[used..]);
+        let answer = host::listen(
+            Escapes::Lenient,
+            mode,
+            held,
+            &mut frame,
+            table,
+            &capture[used..],
+        );
         let said = answer.said;
         let reply = answer.reply;
         mode = answer.mode;

@@ -1,5 +1,5 @@
 -- Demand 2 over the promise of `write`: what it puts into the buffer is handed out again, and what was read is put
--- there byte for byte exactly if its only escapes were needed. Assumes nothing.
+-- there byte for byte: by the strict rule always, by the old one exactly if its only escapes were needed. Assumes nothing.
 use Prim.Native.Nat.{ℕ, _+_, _-_, _≤_}
 use mathlib.Core.Path.{_≡_, refl, sym, ap, _∙_}
 use mathlib.Core.Bool.{Bool, true, false}
@@ -9,16 +9,18 @@ use lib.ListN.{length, take, drop}
 use lib.Seq.{take-append-seam, drop-at, length-take-le}
 use borrow.Author.Tests.{eqb-true, eqb-false}
 use Rattle.standard.specs.declared.Framing.{Framing}
+use Rattle.standard.specs.declared.Escapes.{Escapes}
+use Rattle.standard.specs.declared.Escapes.the-variants.{Strict}
 use Rattle.standard.specs.declared.Written.{Written}
 use Rattle.standard.specs.Words.{laid}
 use Rattle.standard.specs.Messages.{checkOf}
-use Rattle.standard.specs.Framing.{startOf, frameOf}
+use Rattle.standard.specs.Framing.{startOf, frameOf, escapesNeeded}
 use Rattle.standard.specs.Judge.{handing}
 use Rattle.standard.specs.Stream.{handedOf}
 use Rattle.standard.specs.Writer.{writeRefusal, writtenOf, afterWrite, Wrote}
 use Rattle.standard.proofs.Framings.{Bytes}
 use Rattle.standard.proofs.Judge.{good-check}
-use Rattle.writer.specs.RoundTrip.{escapesNeeded, HandsOut}
+use Rattle.writer.specs.RoundTrip.{comesBack, HandsOut}
 use Rattle.writer.proofs.Fit.{fits, fit}
 use Rattle.writer.proofs.Answers.{first-refusal, last-refusal}
 use Rattle.writer.proofs.RoundTrip.{write-then-read-one, read-then-write, written-needed}
@@ -67,28 +69,36 @@ module _ (m : List ℕ) (f : Framing) (out : List ℕ) (place : ℕ) where
       ∙ laid-there out place (frameOf f m) h
 
   -- WHAT IS WRITTEN IS READ: where the answer is 0, the bytes that it speaks of hand out the message
-  pub written-read : (a : Written) (after : List ℕ) → Bytes m → Wrote m f out place a after → a .number ≡ 0
-      → handedOf f (put a after) ≡ handing 0 m ∷ []
+  pub written-read : (rule : Escapes) (a : Written) (after : List ℕ) → Bytes m → Wrote m f out place a after → a .number ≡ 0
+      → handedOf rule f (put a after) ≡ handing 0 m ∷ []
   unfolding writtenOf
-  written-read a after b w z =
+  written-read rule a after b w z =
       let none : writeRefusal m f out place ≡ 0 = sym (ap (λ (x : Written). x .number) (w .says)) ∙ z in
       let good = accepted none in
-      ap (handedOf f) (put-frame a after w none (good .within)) ∙ write-then-read-one f m (good .check) b
+      ap (handedOf rule f) (put-frame a after w none (good .within)) ∙ write-then-read-one rule f m (good .check) b
 
-  -- WHAT IS READ IS WRITTEN: a part whose escapes were needed is put again byte for byte, wherever it fits
-  pub read-written : (front : List ℕ) (last : ℕ) → HandsOut f front last m
-      → escapesNeeded f (front ++ (last ∷ [])) ≡ true
+  -- WHAT IS READ IS WRITTEN: a part is put again byte for byte, wherever it fits; by the old rule one whose escapes were
+  -- needed
+  pub read-written : (rule : Escapes) (front : List ℕ) (last : ℕ) → HandsOut rule f front last m
+      → comesBack rule f (front ++ (last ∷ [])) ≡ true
       → place ≤ length out → length (startOf f ∷ front ++ (last ∷ [])) ≤ length out - place
       → (a : Written) (after : List ℕ) → Wrote m f out place a after
       → (a .number ≡ 0) × (put a after ≡ startOf f ∷ front ++ (last ∷ []))
   unfolding writtenOf
-  read-written front last r n h k a after w =
-      let same = read-then-write f front last m r n in
+  read-written rule front last r n h k a after w =
+      let same = read-then-write rule f front last m r n in
       let room : length (frameOf f m) ≤ length out - place = rw same k in
       let none : writeRefusal m f out place ≡ 0 =
-      last-refusal m f out place (good-check f (front ++ (last ∷ [])) m (r .said))
+      last-refusal m f out place (good-check rule f (front ++ (last ∷ [])) m (r .said))
       ∙ rw (fits (length (frameOf f m)) place (length out) h room) in
       (ap (λ (x : Written). x .number) (w .says) ∙ none, put-frame a after w none h ∙ same)
+
+  -- WITHOUT CONDITION by the strict rule
+  pub strict-read-written : (front : List ℕ) (last : ℕ) → HandsOut Strict f front last m → place ≤ length out
+      → length (startOf f ∷ front ++ (last ∷ [])) ≤ length out - place
+      → (a : Written) (after : List ℕ) → Wrote m f out place a after
+      → (a .number ≡ 0) × (put a after ≡ startOf f ∷ front ++ (last ∷ []))
+  strict-read-written front last r = read-written Strict front last r refl
 
   -- AND NOTHING ELSE IS: where the bytes that an answer speaks of are a part, its only escapes were needed
   pub needless-not-written : (after : List ℕ) (a : Written) (left : List ℕ) → Wrote m f out place a left

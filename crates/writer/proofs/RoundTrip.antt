@@ -1,6 +1,6 @@
 -- Demand 2, both round trips, each over both framings and over the judgement of a stream. Writing and then reading
--- hands out the message, among any other bytes. Reading and then writing gives the part again exactly if its only
--- escapes were those for 7Eh and 7Dh. Assumes nothing.
+-- hands out the message, among any other bytes, by either rule of escapes. Reading and then writing gives the part
+-- again, by the strict rule always, and by the old one exactly if its only escapes were those for 7Eh and 7Dh. Assumes nothing.
 use Prim.Native.Nat.{ℕ, zero, suc, _+_, _<_}
 use native.Mathlib.Omega.{arith}
 use mathlib.Core.Path.{_≡_, refl, sym, ap, ap₂, _∙_, subst}
@@ -13,8 +13,11 @@ use lib.Seq.{take-append-seam, take-append-add}
 use borrow.Author.Tests.{eqb-true}
 use Rattle.standard.specs.declared.Framing.{Framing}
 use Rattle.standard.specs.declared.Framing.the-variants.{Binary, Ascii}
+use Rattle.standard.specs.declared.Escapes.{Escapes}
+use Rattle.standard.specs.declared.Escapes.the-variants.{Strict, Lenient}
 use Rattle.standard.specs.Messages.{among, checkOf}
-use Rattle.standard.specs.Framing.{startOf, stopOf, stuffed, coding, bodyOf, frameOf, also, unstuff, recovered}
+use Rattle.standard.specs.Framing.{startOf, stopOf, stuffed, coding, bodyOf, frameOf, also, needed, stopped, unstuff}
+use Rattle.standard.specs.Framing.{recovered, onlyNeeded, escapesNeeded}
 use Rattle.standard.specs.Judge.{decided, unfinished, handing, judge}
 use Rattle.standard.specs.Stream.{handedOf}
 use Rattle.standard.proofs.Messages.{both-true, good-length}
@@ -23,7 +26,8 @@ use Rattle.standard.proofs.Framings.{Bytes, bytes-none, bytes-cons, bytes-appen
 use Rattle.standard.proofs.Framings.{Again, again-none, again-one, pairs-again}
 use Rattle.standard.proofs.Judge.{other-head, judge-frame, good-begins, last-decides}
 use Rattle.standard.proofs.Stream.{no-start, handed-frame, handed-amid}
-use Rattle.writer.specs.RoundTrip.{onlyNeeded, escapesNeeded, HandsOut}
+use Rattle.standard.proofs.Strict.{recovered-alike}
+use Rattle.writer.specs.RoundTrip.{comesBack, HandsOut}
 
 -- ---- writing, then reading
 
@@ -33,14 +37,14 @@ inside f m = coding f (bodyOf m) ++ stopOf f
 
 -- WRITING, THEN READING: wherever a good message's frame stands in a stream, the message is handed out, after what the
 -- frame's start byte ends and before what follows
-pub write-then-read : (f : Framing) (m p q : List ℕ) → checkOf m ≡ 0 → Bytes m
-    → handedOf f (p ++ (frameOf f m ++ q)) ≡ handedOf f (p ++ (startOf f ∷ [])) ++ (handing 0 m ∷ handedOf f q)
-write-then-read f m p q h b = handed-amid f p m q h b
+pub write-then-read : (rule : Escapes) (f : Framing) (m p q : List ℕ) → checkOf m ≡ 0 → Bytes m
+    → handedOf rule f (p ++ (frameOf f m ++ q)) ≡ handedOf rule f (p ++ (startOf f ∷ [])) ++ (handing 0 m ∷ handedOf rule f q)
+write-then-read rule f m p q h b = handed-amid rule f p m q h b
 
 -- and so of a frame alone
-pub write-then-read-one : (f : Framing) (m : List ℕ) → checkOf m ≡ 0 → Bytes m
-    → handedOf f (frameOf f m) ≡ handing 0 m ∷ []
-write-then-read-one f m h b = ap (handedOf f) (sym (append-nil (frameOf f m))) ∙ handed-frame f m [] h b
+pub write-then-read-one : (rule : Escapes) (f : Framing) (m : List ℕ) → checkOf m ≡ 0 → Bytes m
+    → handedOf rule f (frameOf f m) ≡ handing 0 m ∷ []
+write-then-read-one rule f m h b = ap (handedOf rule f) (sym (append-nil (frameOf f m))) ∙ handed-frame rule f m [] h b
 
 -- ---- reading, then writing
 
@@ -50,7 +54,7 @@ escape true = 0x7D ∷ []
 escape false = []
 
 -- behind an escape that was needed
-escaped-again : (b : ℕ) (bs p : List ℕ) → among b (0x5E ∷ 0x5D ∷ []) ≡ true → Again Binary bs p
+escaped-again : (b : ℕ) (bs p : List ℕ) → needed b ≡ true → Again Binary bs p
     → Again Binary (bitXor b 0x20 ∷ bs) (0x7D ∷ b ∷ p)
 escaped-again b bs p h a = go (eqb b 0x5E) refl (eqb b 0x5D) refl h
   where
@@ -64,29 +68,35 @@ plain-again : (b : ℕ) (bs p : List ℕ) → b < 256 → eqb b 0x7E ≡ false �
     → Again Binary (b ∷ bs) (b ∷ p)
 plain-again b bs p h e k a = rw (e, k) at (again-one Binary b bs p h a)
 
-needed-again : (p : List ℕ) (e : Bool) → onlyNeeded e p ≡ true → among 0x7E p ≡ false → Bytes p
-    → Again Binary (unstuff e p .bytes) (escape e ++ p)
-unfolding onlyNeeded unstuff
-needed-again [] true h k b = again-none Binary (0x7D ∷ [])
-needed-again [] false h k b = again-none Binary []
-needed-again (x ∷ p) true h k b =
-    let both = both-true (among x (0x5E ∷ 0x5D ∷ [])) (onlyNeeded false p) h in
-    escaped-again x (unstuff false p .bytes) p (both .0)
-    (needed-again p false (both .1) (other-head 0x7E x p k .1) (λ i. b (suc i)))
-needed-again (x ∷ p) false h k b =
-    go (eqb x 0x7D) refl h (λ e q. needed-again p e q (other-head 0x7E x p k .1) (λ i. b (suc i)))
+-- by the strict rule, up to where it stops
+strict-again : (p : List ℕ) (e : Bool) → among 0x7E p ≡ false → Bytes p
+    → Again Binary (unstuff Strict e p .bytes) (escape e ++ p)
+unfolding unstuff
+strict-again [] true k b = again-none Binary (0x7D ∷ [])
+strict-again [] false k b = again-none Binary []
+strict-again (x ∷ p) true k b =
+    go (needed x) refl (strict-again p false (other-head 0x7E x p k .1) (λ i. b (suc i)))
   where
-    go : (t : Bool) → eqb x 0x7D ≡ t → onlyNeeded t p ≡ true
-        → ((e : Bool) → onlyNeeded e p ≡ true → Again Binary (unstuff e p .bytes) (escape e ++ p))
-        → Again Binary (cond t (unstuff t p) (also x (unstuff t p)) .bytes) (x ∷ p)
-    go true e q ih = rw (eqb-true x 0x7D e) (ih true q)
-    go false e q ih = plain-again x (unstuff false p .bytes) p (b zero) (other-head 0x7E x p k .0) e (ih false q)
+    go : (t : Bool) → needed x ≡ t → Again Binary (unstuff Strict false p .bytes) p
+        → Again Binary (cond t (also (bitXor x 0x20) (unstuff Strict false p)) (stopped 15) .bytes) (0x7D ∷ x ∷ p)
+    go true e ih = escaped-again x (unstuff Strict false p .bytes) p e ih
+    go false e ih = again-none Binary (0x7D ∷ x ∷ p)
+strict-again (x ∷ p) false k b =
+    go (eqb x 0x7D) refl (λ e. strict-again p e (other-head 0x7E x p k .1) (λ i. b (suc i)))
+  where
+    go : (t : Bool) → eqb x 0x7D ≡ t → ((e : Bool) → Again Binary (unstuff Strict e p .bytes) (escape e ++ p))
+        → Again Binary (cond t (unstuff Strict t p) (also x (unstuff Strict t p)) .bytes) (x ∷ p)
+    go true e ih = rw (eqb-true x 0x7D e) (ih true)
+    go false e ih = plain-again x (unstuff Strict false p .bytes) p (b zero) (other-head 0x7E x p k .0) e (ih false)
 
--- the bytes of a part whose escapes were needed are coded again as they came
-again : (f : Framing) (after : List ℕ) → escapesNeeded f after ≡ true → among (startOf f) after ≡ false → Bytes after
-    → Again f (recovered f after .bytes) after
-again Binary after h k b = needed-again after false h k b
-again Ascii after h k b = pairs-again after
+-- the bytes of a part are coded again as they came: by the strict rule always, by the old one where its escapes were
+-- needed, as both then recover the same
+again : (rule : Escapes) (f : Framing) (after : List ℕ) → comesBack rule f after ≡ true
+    → among (startOf f) after ≡ false → Bytes after
+    → Again f (recovered rule f after .bytes) after
+again Strict Binary after h k b = strict-again after false k b
+again rule Ascii after h k b = pairs-again after
+again Lenient Binary after h k b = rw (← recovered-alike Binary after h) (strict-again after false k b)
 
 -- all but the last of a list that goes on behind b
 cut : (a b l : List ℕ) (x y : ℕ) → a ++ (x ∷ []) ≡ b ++ (y ∷ l) → a ≡ b ++ take (length l) (y ∷ l)
@@ -97,29 +107,34 @@ cut a b l x y e =
     ∙ take-append-add b (y ∷ l) (length l)
 
 -- where the last byte decides, nothing stands behind the frame: the part would be decided without that byte
-nothing-behind : (f : Framing) (front : List ℕ) (last : ℕ) (m tail : List ℕ) → judge f (startOf f ∷ front) ≡ unfinished
+nothing-behind : (rule : Escapes) (f : Framing) (front : List ℕ) (last : ℕ) (m tail : List ℕ) → judge rule f (startOf f ∷ front) ≡ unfinished
     → checkOf m ≡ 0 → Bytes (bodyOf m) → front ++ (last ∷ []) ≡ inside f m ++ tail → tail ≡ []
 unfolding frameOf
-nothing-behind f front last m [] u h b e = refl
-nothing-behind f front last m (x ∷ tail) u h b e =
-    let sooner : judge f (startOf f ∷ front) ≡ decided (handing 0 m) =
-    ap (λ (l : List ℕ). judge f (startOf f ∷ l)) (cut front (inside f m) tail last x e)
-    ∙ judge-frame f m (take (length tail) (x ∷ tail)) h b in
+nothing-behind rule f front last m [] u h b e = refl
+nothing-behind rule f front last m (x ∷ tail) u h b e =
+    let sooner : judge rule f (startOf f ∷ front) ≡ decided (handing 0 m) =
+    ap (λ (l : List ℕ). judge rule f (startOf f ∷ l)) (cut front (inside f m) tail last x e)
+    ∙ judge-frame rule f m (take (length tail) (x ∷ tail)) h b in
     let z : _≡_ {A = ℕ} 0 1 = cc in
     absurd (omega arith)
 
--- READING, THEN WRITING: a part up to its deciding byte that hands out m, and whose escapes were needed, is the frame
--- of m
-pub read-then-write : (f : Framing) (front : List ℕ) (last : ℕ) (m : List ℕ) → HandsOut f front last m
-    → escapesNeeded f (front ++ (last ∷ [])) ≡ true → frameOf f m ≡ startOf f ∷ front ++ (last ∷ [])
+-- READING, THEN WRITING: a part up to its deciding byte that hands out m is the frame of m; by the old rule where its
+-- escapes were needed
+pub read-then-write : (rule : Escapes) (f : Framing) (front : List ℕ) (last : ℕ) (m : List ℕ) → HandsOut rule f front last m
+    → comesBack rule f (front ++ (last ∷ [])) ≡ true → frameOf f m ≡ startOf f ∷ front ++ (last ∷ [])
 unfolding frameOf
-read-then-write f front last m r h =
+read-then-write rule f front last m r h =
     let after = front ++ (last ∷ []) in
-    let begins = good-begins f after m (again f after h (r .alone) (r .bytes)) (r .said) in
+    let begins = good-begins rule f after m (again rule f after h (r .alone) (r .bytes)) (r .said) in
     let is : after ≡ inside f m ++ begins .tail =
     begins .is ∙ sym (append-assoc (coding f (bodyOf m)) (stopOf f) (begins .tail)) in
-    let none = nothing-behind f front last m (begins .tail) (r .before) (begins .check) (begins .bytes) is in
+    let none = nothing-behind rule f front last m (begins .tail) (r .before) (begins .check) (begins .bytes) is in
     ap (λ (l : List ℕ). startOf f ∷ l) (sym (is ∙ ap (λ (l : List ℕ). inside f m ++ l) none ∙ append-nil (inside f m)))
+
+-- WITHOUT CONDITION by the strict rule
+pub strict-read-then-write : (f : Framing) (front : List ℕ) (last : ℕ) (m : List ℕ) → HandsOut Strict f front last m
+    → frameOf f m ≡ startOf f ∷ front ++ (last ∷ [])
+strict-read-then-write f front last m r = read-then-write Strict f front last m r refl
 
 -- ---- every frame is such a part
 
@@ -143,25 +158,30 @@ pub written-needed : (f : Framing) (after m : List ℕ) → frameOf f m ≡ star
 unfolding frameOf
 written-needed f after m e = ap (λ (l : List ℕ). escapesNeeded f (drop 1 l)) (sym e) ∙ inside-needed f m
 
+-- so a part that is read strictly had no needless escape
+pub strict-needed : (f : Framing) (front : List ℕ) (last : ℕ) (m : List ℕ) → HandsOut Strict f front last m
+    → escapesNeeded f (front ++ (last ∷ [])) ≡ true
+strict-needed f front last m r = written-needed f (front ++ (last ∷ [])) m (strict-read-then-write f front last m r)
+
 stop-bytes : (f : Framing) → Bytes (stopOf f)
 stop-bytes Binary = bytes-none
 stop-bytes Ascii = bytes-cons 0x0D [] (lit≤ tt) bytes-none
 
 -- the frame of m, as what it is read as
-pub record FrameReads (f : Framing) (m : List ℕ) : Type 0 where
+pub record FrameReads (rule : Escapes) (f : Framing) (m : List ℕ) : Type 0 where
   pub front : List ℕ
   pub last : ℕ
   pub is : frameOf f m ≡ startOf f ∷ front ++ (last ∷ [])
-  pub reads : HandsOut f front last m
+  pub reads : HandsOut rule f front last m
   pub needed : escapesNeeded f (front ++ (last ∷ [])) ≡ true
 
 -- EVERY FRAME IS SUCH A PART, so that the second round trip speaks of each: it hands out its message, and at its last
 -- byte
-pub frame-reads : (f : Framing) (m : List ℕ) → checkOf m ≡ 0 → Bytes m → FrameReads f m
+pub frame-reads : (rule : Escapes) (f : Framing) (m : List ℕ) → checkOf m ≡ 0 → Bytes m → FrameReads rule f m
 unfolding frameOf
-frame-reads f m h b =
+frame-reads rule f m h b =
     let body = body-bytes m (good-length m h) b in
-    let l = last-decides f m h body in
+    let l = last-decides rule f m h body in
     let same : inside f m ≡ l .front ++ (l .last ∷ []) = ap (drop 1) (l .is) in
     record {
       front = l .front;
@@ -172,7 +192,7 @@ frame-reads f m h b =
             (bytes-append (coding f (bodyOf m)) (stopOf f) (coding-bytes f (bodyOf m) body) (stop-bytes f));
         alone = ap (among (startOf f)) (sym same) ∙ no-start f m;
         before = l .before;
-        said = ap (judge f) (sym (l .is) ∙ sym (append-nil (frameOf f m))) ∙ judge-frame f m [] h body;
+        said = ap (judge rule f) (sym (l .is) ∙ sym (append-nil (frameOf f m))) ∙ judge-frame rule f m [] h body;
       };
       needed = ap (escapesNeeded f) (sym same) ∙ inside-needed f m;
     }

@@ -13,9 +13,6 @@ Inv-loop card bytes table₀ reader₀ place₀ calls₀ table reader place call
 abbrev μ-loop : tie.MeasureT-loop
 μ-loop card bytes table₀ reader₀ place₀ calls₀ table reader place calls = length bytes - calls
 
-fresh-requires : tie.Need-fresh-requires Inv-loop μ-loop
-fresh-requires c κs = search needs
-
 loop-holds : tie.Need-loop-holds Inv-loop μ-loop
 loop-holds c = search needs
 
@@ -88,7 +85,6 @@ verdicts-spec =
     (tie.spec
     Inv-loop
     μ-loop
-    fresh-requires
     loop-holds
     same-length
     returns

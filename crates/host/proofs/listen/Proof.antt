@@ -14,7 +14,12 @@ use Rattle.host.proofs.listen.Tie as tie
 
 -- the reader that the call is handed
 abbrev given : tie.Start → Reader
-given s = record { mode = s .args .from; held = s .args .count; bytes = s .args .frame .now }
+given s = record {
+  mode = s .args .from;
+  held = s .args .count;
+  bytes = s .args .frame .now;
+  escapes = s .args .escapes;
+}
 
 -- where the read begins, a call hears what it gives
 abbrev start : tie.After-scan → tie.Start
@@ -47,7 +52,7 @@ returns c =
     let test = c .before in
     let s = test .before .before .before .before .before .before in
     rw (c .refused .ensures)
-    (refused 11 (given s) (s .args .table .now) (s .args .bytes .now) (omega arith)
+    (refused 11 (given s) (s .args .table .now) (s .args .bytes .now) (omega arith) (λ z. omega arith)
     (no-table (given s) (s .args .table .now) (s .args .bytes .now)
     (λ z. test .if1 .taken (test .before .refusal .ensures ∙ whole-asked _ z))))
 
@@ -67,7 +72,7 @@ store-requires c κs =
     let o = scanned known in
     let s = start o in
     let sized = good-sized (given s) (s .args .bytes .now) (v .0 .0) (v .1) (o .scan .ensures .gives) in
-    λ z. omega (arith, message-fits (v .0 .0) (v .1) (o .scan .ensures .gives), o .scan .kept .1 .1 .0, sized z)
+    λ z. omega (arith, message-fits (v .0 .0) (v .1) (o .scan .ensures .gives), o .scan .kept .1 .1 .1 .0, sized z)
 
 reply-requires : tie.Need-reply-requires
 reply-requires c κs = search needs

@@ -19,7 +19,7 @@ abbrev call : tie.After-scan-c → tie.Start
 call c = c .before .before .before .before .before .before .before .before
 
 abbrev frame : tie.After-scan-c → List ℕ
-frame c = c .scan-c .last .1 .1 .1 .1 .0
+frame c = c .scan-c .last .1 .1 .1 .1 .1 .0
 
 -- the scan before a reply
 abbrev scan : tie.After-nx584-reply → tie.After-scan-c

@@ -11,7 +11,7 @@ abbrev call : tie.After-scan-c → tie.Start
 call c = c .before .before .before .before
 
 abbrev frame : tie.After-scan-c → List ℕ
-frame c = c .scan-c .last .1 .1 .1 .1 .0
+frame c = c .scan-c .last .1 .1 .1 .1 .1 .0
 
 slice-aggregate-scan-c : tie.Need-slice-aggregate-scan-c
 slice-aggregate-scan-c c = search needs

@@ -12,7 +12,7 @@ use Rattle.reader.specs.declared.Reader.{Reader}
 use Rattle.reader.specs.Read.{soundReader, Reads, Lent}
 use Rattle.reader.proofs.State.Arrays.{lent-is-read, Whole, whole-read}
 use Rattle.nx584.specs.declared.CReader.{CReader}
-use Rattle.nx584.specs.Boundary.{readerFor, numbersSaid, soundC}
+use Rattle.nx584.specs.Boundary.{escapesFor, readerFor, numbersSaid, soundC}
 use Rattle.nx584.proofs.InC.{no-mode, a-mode, c-sound, took-fits}
 use Rattle.nx584.proofs.Scans.{twelve, not-twelve, twelve-stays, scans-refused, scans-sound}
 use borrow.Author.Needs.{needs}
@@ -27,21 +27,27 @@ asked s = record {
   digit = s .args .digit;
   held = s .args .held;
   bytes = s .args .frame .now;
+  escapes = s .args .escapes;
 }
 
 -- the call, the reader after the scan, and what the scan promises of it
 abbrev call : tie.After-scan → tie.Start
-call c = c .before .before .before .before .before .before .before .before
+call c = c .before .before .before .before .before .before .before .before .before
 
 abbrev given : tie.After-scan → List ℕ
 given c = call c .args .bytes .now
 
 abbrev after : tie.After-scan → Reader
-after c = record { mode = c .scan .result .mode; held = c .scan .result .held; bytes = c .scan .last .1 .1 .0 }
+after c = record {
+  mode = c .scan .result .mode;
+  held = c .scan .result .held;
+  bytes = c .scan .last .1 .1 .1 .0;
+  escapes = escapesFor (call c .args .escapes);
+}
 
 numbered : (c : tie.After-scan) → soundC (asked (call c)) ≡ soundReader (readerFor (asked (call c)))
 numbered c =
-    let test = c .before .before .before .before in
+    let test = c .before .before .before .before .before in
     a-mode (asked (call c)) (sym (test .before .mode-ok .ensures) ∙ not-false _ (test .if1 .left))
 
 told : (c : tie.After-scan)
@@ -50,7 +56,13 @@ told c =
     let r = readerFor (asked (call c)) in
     let read = c .scan .result in
     let lent : Lent r (given c) (after c) (read .used) (read .said) =
-    rw (c .before .before .mode-for .ensures, c .before .before .before .framing-for .ensures) at (c .scan .ensures)
+    let numbers = c .before .before in
+    rw (
+      numbers .escapes-for .ensures,
+      numbers .before .mode-for .ensures,
+      numbers .before .before .framing-for .ensures,
+    )
+    at (c .scan .ensures)
     in
     lent-is-read r (given c) (after c) (read .used) (read .said) (call c .pre) lent
 
@@ -75,6 +87,9 @@ returns c =
     let s = test .before .before .before .before in
     let h = no-mode (asked s) (sym (test .before .mode-ok .ensures) ∙ not-true _ (test .if1 .taken)) in
     rw (c .not-sound .ensures) (scans-refused (asked s) (s .args .bytes .now) (s .pre) h)
+
+escapes-for-requires : tie.Need-escapes-for-requires
+escapes-for-requires c κs = search needs
 
 framing-for-requires : tie.Need-framing-for-requires
 framing-for-requires c κs = search needs
@@ -122,8 +137,8 @@ passed c =
     sound (numbers .before .before .before)
     (λ z. test .if2 .left (ap (λ (v : Verdict). v .number) (numbers .numbers .ensures) ∙ z))
 
-cast-t21 : tie.Need-cast-t21
-cast-t21 c =
+cast-t23 : tie.Need-cast-t23
+cast-t23 c =
     let scan = c .before .before .before .before .before .before .before .before .before in
     let h = c-sound (asked (call scan)) (passed (c .before)) in
     let few = took-fits (readerFor (asked (call scan))) (given scan) (after scan) (scan .scan .result .said) h
@@ -155,6 +170,7 @@ scan-c-spec =
     returns
     framing-for-requires
     mode-for-requires
+    escapes-for-requires
     scan-requires
     numbers-requires
     not-sound-requires-2
@@ -163,6 +179,6 @@ scan-c-spec =
     framing-of-requires
     mode-number-requires
     digit-number-requires
-    cast-t21
+    cast-t23
     same-length-2
     returns-3)

@@ -47,7 +47,7 @@ use Rattle.reader.proofs.Part.Frames.{length-snoc, by-test, whole-front
 use Rattle.reader.proofs.State.Kept.{Quiet, keeps-step}
 use Rattle.reader.proofs.State.Arrays.{laid-front, length-laid, sound-with, again, lent-read, lent-none}
 use Rattle.reader.proofs.State.Arrays.{read-sound}
-use Rattle.reader.proofs.State.Arrays.{read-unsound, sound-read, Whole, whole-read, read-none}
+use Rattle.reader.proofs.State.Arrays.{read-unsound, sound-read, Whole, whole-read, readerWith, read-none}
 use Rattle.reader.proofs.State.Arrays.{read-steps}
 use Rattle.reader.proofs.State.Handing.{handed-from-verdict}
 use Rattle.reader.proofs.Functions.CodeSteps.{all-held, no-start}
@@ -121,7 +121,7 @@ pub record SoFar (r : Reader) (bs : List ℕ) (i : ℕ) (now : Reader) : Type 0 
 pub record Turn (r : Reader) (bs : List ℕ) (i : ℕ) (now : Reader) (d : Decision) : Type 0 where
   pub so-far : SoFar r bs i now
   pub inside : i < length bs
-  pub done : Done d (take (now .held) (now .bytes)) (stepIn (now .mode) (getD bs i 0) (take (now .held) (now .bytes)))
+  pub done : Done d (take (now .held) (now .bytes)) (stepIn (now .escapes) (now .mode) (getD bs i 0) (take (now .held) (now .bytes)))
 
 -- the array after it, and the reader
 abbrev pub storedBy : Decision → Reader → List ℕ
@@ -135,7 +135,7 @@ pub stored-same : (d : Decision) (now : Reader) → d .keep ≡ false → now .b
 stored-same d now e = rw e
 
 abbrev pub readerBy : Decision → Reader → Reader
-readerBy d now = record { mode = d .mode; held = d .held; bytes = storedBy d now }
+readerBy d now = record { mode = d .mode; held = d .held; bytes = storedBy d now; escapes = now .escapes }
 
 module _ {r : Reader} {bs : List ℕ} {i : ℕ} {now : Reader} {d : Decision} (t : Turn r bs i now d) where
   abbrev b : ℕ
@@ -156,9 +156,9 @@ module _ {r : Reader} {bs : List ℕ} {i : ℕ} {now : Reader} {d : Decision} (t
   pub room : d .keep ≡ true → now .held < length (now .bytes)
   unfolding Whole
   room e =
-      let s = stepOf (stateOf now) b in
+      let s = stepOf (now .escapes) (stateOf now) b in
       let all : length (s .kept) ≤ longest + 3 =
-      keeps-step (stateOf now) b .0 .few (reader-fits now (t .so-far .sound)) in
+      keeps-step (now .escapes) (stateOf now) b .0 .few (reader-fits now (t .so-far .sound)) in
       let more : s .kept ≡ take (now .held) (now .bytes) ++ (d .byte ∷ []) = rw e at (t .done .kept) in
       let n : length (take (now .held) (now .bytes)) ≡ now .held = length-take-le (now .held) (now .bytes) few in
       omega (arith, ap length more, length-snoc (take (now .held) (now .bytes)) (d .byte), t .so-far .size)
@@ -183,7 +183,7 @@ module _ {r : Reader} {bs : List ℕ} {i : ℕ} {now : Reader} {d : Decision} (t
       → s .next ≡ record { mode = d .mode; held = heldBy d (take (now .held) (now .bytes)) }
       → s .said ≡ saidBy o (d .number) frame → s .kept ≡ frame
       → readFrom now
-      (readOn (s .said) s (scanOf (s .next) []))
+      (readOn (s .said) s (scanOf (now .escapes) (s .next) []))
       ≡ record { reader = readerBy d now; used = 1; said = saidBy o (d .number) frame }
   unfolding scanOf
   by-outcome Nothing s w n h k =
@@ -197,7 +197,7 @@ module _ {r : Reader} {bs : List ℕ} {i : ℕ} {now : Reader} {d : Decision} (t
   unfolding scanOf
   one-byte =
       read-sound now (b ∷ []) (t .so-far .sound)
-      ∙ by-outcome (d .outcome) (stepOf (stateOf now) b) (t .done .bound) (t .done .next) (t .done .said)
+      ∙ by-outcome (d .outcome) (stepOf (now .escapes) (stateOf now) b) (t .done .bound) (t .done .next) (t .done .said)
       (t .done .kept)
 
   sound-after : soundReader (readerBy d now) ≡ true
@@ -290,7 +290,7 @@ module _ (r : Reader) (f : Framing) (m : r .mode ≡ Skipping f) (sound : soundR
   unfolding scanOf
   skip-one b bs other =
       let held = take (r .held) (r .bytes) in
-      let stays : stepOf (stateOf r) b ≡ goes (r .mode) held = rw m (no-start (Skipping f) held b other) in
+      let stays : stepOf (r .escapes) (stateOf r) b ≡ goes (r .mode) held = rw m (no-start (r .escapes) (Skipping f) held b other) in
       rw (read-sound r (b ∷ bs) sound, read-sound r bs sound, stays)
 
   left-skipping : (bs : List ℕ) → Left r bs (length (upToStart (startOf f) bs)) r
@@ -335,8 +335,7 @@ laid-after bytes n more h =
 
 -- the reader after they are taken
 abbrev pub grownBy : Reader → List ℕ → Reader
-grownBy now more =
-    record { mode = now .mode; held = now .held + length more; bytes = laid (now .bytes) (now .held) more }
+grownBy now more = readerWith now (now .held + length more) (laid (now .bytes) (now .held) more)
 
 same-beyond : (f : Framing) → beyondLength (Open f) ≡ beyond f
 same-beyond Binary = refl
@@ -392,14 +391,14 @@ module _ {r : Reader} {bs : List ℕ} {i : ℕ} {now : Reader} (t : SoFar r bs i
 
     -- n bytes in silence brought them
     silent-on : (n : ℕ) → n ≤ length rest
-        → scanOf (inFrame f held) rest ≡ usedMore n (scanOf (inFrame f (held ++ more)) (drop n rest))
+        → scanOf (now .escapes) (inFrame f held) rest ≡ usedMore n (scanOf (now .escapes) (inFrame f (held ++ more)) (drop n rest))
         → SoFar r bs (i + n) (grownBy now more)
     silent-on n inside e =
         let quiet : Quiet (stateOf now) (inFrame f (held ++ more)) =
         record { stays = inr refl; open-on = λ o. (refl, omega (arith, length-append held more)) } in
         let later = again now (t .sound) (inFrame f (held ++ more)) (drop n rest) fits quiet in
         let first =
-        read-sound now rest (t .sound) ∙ ap (λ s. readFrom now (scanOf s rest)) in-frame ∙ ap (readFrom now) e in
+        read-sound now rest (t .sound) ∙ ap (λ s. readFrom now (scanOf (now .escapes) s rest)) in-frame ∙ ap (readFrom now) e in
         let used : (u : ℕ) → i + (n + u) ≡ i + n + u = λ u. omega arith in
         rw same
         (record {
@@ -407,7 +406,7 @@ module _ {r : Reader} {bs : List ℕ} {i : ℕ} {now : Reader} (t : SoFar r bs i
           sound = sound-with (Open f) (now .bytes) (held ++ more) (held ++ more) (inr refl) fits;
           size = size-on;
           left = t .left
-              ∙ rw (first, ← drop-drop n i bs, later, used (scanOf (inFrame f (held ++ more)) (drop n rest) .used));
+              ∙ rw (first, ← drop-drop n i bs, later, used (scanOf (now .escapes) (inFrame f (held ++ more)) (drop n rest) .used));
         })
 
   -- those that an open frame takes
@@ -433,7 +432,7 @@ module _ {r : Reader} {bs : List ℕ} {i : ℕ} {now : Reader} (t : SoFar r bs i
                 (few-grown (beyond f) L most held P (w .known) refl (omega (arith, length-append held g))),
             refl,
           ) in
-          let run = plain-run f L (w .known) (length g) held rest P refl (omega arith) refl (omega arith) in
+          let run = plain-run (now .escapes) f L (w .known) (length g) held rest P refl (omega arith) refl (omega arith) in
           rw (w .is)
           (silent-on g fits (span f (length g)) (within f (length g) rest P refl (omega arith))
           (rw (take-again most P) at run))
@@ -441,15 +440,15 @@ module _ {r : Reader} {bs : List ℕ} {i : ℕ} {now : Reader} (t : SoFar r bs i
 -- what is taken leaves the whole read as it is
 pub takes-on : {r : Reader} {bs : List ℕ} {i : ℕ} {now : Reader} (taken : Taken) (after : List ℕ) → SoFar r bs i now
     → TakesIn (now .mode) (now .held) (now .bytes) (drop i bs) taken after
-    → SoFar r bs (i + taken .used) (record { mode = now .mode; held = now .held + taken .count; bytes = after })
+    → SoFar r bs (i + taken .used) (readerWith now (now .held + taken .count) after)
 takes-on {r} {bs} {i} {now} taken after t = by-mode (now .mode) refl
   where
     nothing : (taken ≡ record { count = 0; used = 0 }) × (after ≡ now .bytes)
-        → SoFar r bs (i + taken .used) (record { mode = now .mode; held = now .held + taken .count; bytes = after })
+        → SoFar r bs (i + taken .used) (readerWith now (now .held + taken .count) after)
     nothing w = rw (w .0, w .1, add-zero i, add-zero (now .held)) t
 
     by-mode : (m : Mode) → now .mode ≡ m → TakesIn m (now .held) (now .bytes) (drop i bs) taken after
-        → SoFar r bs (i + taken .used) (record { mode = now .mode; held = now .held + taken .count; bytes = after })
+        → SoFar r bs (i + taken .used) (readerWith now (now .held + taken .count) after)
     by-mode (Skipping f) e w = nothing w
     by-mode (Open f) e w = rw (w .used, w .count, w .lays) (grown-on t f e)
     by-mode Escape e w = nothing w

@@ -12,6 +12,7 @@ use lib.Seq.{append-snoc, drop-drop}
 use borrow.Author.Tests.{ne-eqb}
 use Rattle.standard.specs.declared.Framing.{Framing}
 use Rattle.standard.specs.declared.Framing.the-variants.{Binary, Ascii}
+use Rattle.standard.specs.declared.Escapes.{Escapes}
 use Rattle.standard.specs.Messages.{lengthOk}
 use Rattle.standard.specs.Framing.{startOf, valueOf}
 use Rattle.frames.specs.Plain.{stands, plainOf, span, beyond}
@@ -40,15 +41,15 @@ used-twice n m read =
     (sym (add-assoc n m (read .used)))
 
 -- a byte that says nothing
-quiet : (s : State) (b : ℕ) (bs : List ℕ) (m : Mode) (held : List ℕ) → stepOf s b ≡ goes m held
-    → scanOf s (b ∷ bs) ≡ usedMore 1 (scanOf (record { mode = m; held = held }) bs)
+quiet : (rule : Escapes) (s : State) (b : ℕ) (bs : List ℕ) (m : Mode) (held : List ℕ) → stepOf rule s b ≡ goes m held
+    → scanOf rule s (b ∷ bs) ≡ usedMore 1 (scanOf rule (record { mode = m; held = held }) bs)
 unfolding scanOf
-quiet s b bs m held e =
-    let n : suc (scanOf (record {
+quiet rule s b bs m held e =
+    let n : suc (scanOf rule (record {
       mode =
           m;
       held = held;
-    }) bs .used) ≡ 1 + scanOf (record { mode = m; held = held }) bs .used = omega arith in
+    }) bs .used) ≡ 1 + scanOf rule (record { mode = m; held = held }) bs .used = omega arith in
     rw (e, n)
 
 -- ---- one plain byte
@@ -80,32 +81,32 @@ head : ℕ → List ℕ → ℕ
 head d [] = d
 head d (x ∷ xs) = x
 
-module _ (L : ℕ) (known : lengthOk L ≡ true) (held : List ℕ) where
+module _ (rule : Escapes) (L : ℕ) (known : lengthOk L ≡ true) (held : List ℕ) where
   one-standing : (b x : ℕ) (bs : List ℕ) → stands b ≡ true → b ≡ x → getD (held ++ (x ∷ [])) 0 0 ≡ L
       → length held < L + 2
-      → scanOf (inFrame Binary held) (b ∷ bs) ≡ usedMore 1 (scanOf (inFrame Binary (held ++ (x ∷ []))) bs)
+      → scanOf rule (inFrame Binary held) (b ∷ bs) ≡ usedMore 1 (scanOf rule (inFrame Binary (held ++ (x ∷ []))) bs)
   one-standing b x bs s e f h =
-      quiet (inFrame Binary held) b bs (Open Binary) (held ++ (x ∷ []))
-      (no-start (Open Binary) held b (not-standing b 0x7E refl s)
+      quiet rule (inFrame Binary held) b bs (Open Binary) (held ++ (x ∷ []))
+      (no-start rule (Open Binary) held b (not-standing b 0x7E refl s)
       ∙ rw (ne-eqb b 0x7D (not-standing b 0x7D refl s), e) (takes-on Binary held x L known f h))
 
   two-digits : (c d u v x : ℕ) (bs : List ℕ) → valueOf c ≡ some u → valueOf d ≡ some v → u * 16 + v ≡ x
       → getD (held ++ (x ∷ [])) 0 0 ≡ L
       → length held < L + 3
-      → scanOf (inFrame Ascii held) (c ∷ d ∷ bs) ≡ usedMore 2 (scanOf (inFrame Ascii (held ++ (x ∷ []))) bs)
+      → scanOf rule (inFrame Ascii held) (c ∷ d ∷ bs) ≡ usedMore 2 (scanOf rule (inFrame Ascii (held ++ (x ∷ []))) bs)
   two-digits c d u v x bs p q e f h =
-      let high : stepOf (inFrame Ascii held) c ≡ goes (Digit u) held =
-      no-start (Open Ascii) held c (no-digit c u p) ∙ digit-due held L c (first held x L f) h ∙ rw p in
-      let low : stepOf (record { mode = Digit u; held = held }) d ≡ goes (Open Ascii) (held ++ (x ∷ [])) =
-      no-start (Digit u) held d (no-digit d v q) ∙ rw (q, e) (takes-on Ascii held x L known f h) in
-      quiet (inFrame Ascii held) c (d ∷ bs) (Digit u) held high
-      ∙ ap (usedMore 1) (quiet (record { mode = Digit u; held = held }) d bs (Open Ascii) (held ++ (x ∷ [])) low)
-      ∙ used-twice 1 1 (scanOf (inFrame Ascii (held ++ (x ∷ []))) bs)
+      let high : stepOf rule (inFrame Ascii held) c ≡ goes (Digit u) held =
+      no-start rule (Open Ascii) held c (no-digit c u p) ∙ digit-due held L c (first held x L f) h ∙ rw p in
+      let low : stepOf rule (record { mode = Digit u; held = held }) d ≡ goes (Open Ascii) (held ++ (x ∷ [])) =
+      no-start rule (Digit u) held d (no-digit d v q) ∙ rw (q, e) (takes-on Ascii held x L known f h) in
+      quiet rule (inFrame Ascii held) c (d ∷ bs) (Digit u) held high
+      ∙ ap (usedMore 1) (quiet rule (record { mode = Digit u; held = held }) d bs (Open Ascii) (held ++ (x ∷ [])) low)
+      ∙ used-twice 1 1 (scanOf rule (inFrame Ascii (held ++ (x ∷ []))) bs)
 
   one-plain : {f : Framing} {bs p : List ℕ} → Seen f bs p → (x : ℕ) (xs : List ℕ) → p ≡ x ∷ xs
       → getD (held ++ (x ∷ [])) 0 0 ≡ L
       → length held < L + beyond f
-      → scanOf (inFrame f held) bs ≡ usedMore (span f 1) (scanOf (inFrame f (held ++ (x ∷ []))) (drop (span f 1) bs))
+      → scanOf rule (inFrame f held) bs ≡ usedMore (span f 1) (scanOf rule (inFrame f (held ++ (x ∷ []))) (drop (span f 1) bs))
   unfolding head
   one-plain nothing x xs e f room = absurd (cons≢nil (sym e))
   one-plain (one {b} {bs} s) x xs e f room = one-standing b x bs s (ap (head 0) e) f room
@@ -113,26 +114,26 @@ module _ (L : ℕ) (known : lengthOk L ≡ true) (held : List ℕ) where
 
 -- ---- a run of them
 
-pub plain-run : (f : Framing) (L : ℕ) → lengthOk L ≡ true → (k : ℕ) (held bs plain : List ℕ) → plainOf f bs ≡ plain
+pub plain-run : (rule : Escapes) (f : Framing) (L : ℕ) → lengthOk L ≡ true → (k : ℕ) (held bs plain : List ℕ) → plainOf f bs ≡ plain
     → k ≤ length plain
     → getD (held ++ plain) 0 0 ≡ L → length held + k ≤ L + beyond f
-    → scanOf (inFrame f held) bs ≡ usedMore (span f k) (scanOf (inFrame f (held ++ take k plain)) (drop (span f k) bs))
-plain-run f L known zero held bs plain e n first few =
-    rw (append-nil held, span-none f) (used-none (scanOf (inFrame f held) bs))
-plain-run f L known (suc k) held bs [] e n first few = absurd (omega arith)
-plain-run f L known (suc k) held bs (x ∷ plain) e n first few =
+    → scanOf rule (inFrame f held) bs ≡ usedMore (span f k) (scanOf rule (inFrame f (held ++ take k plain)) (drop (span f k) bs))
+plain-run rule f L known zero held bs plain e n first few =
+    rw (append-nil held, span-none f) (used-none (scanOf rule (inFrame f held) bs))
+plain-run rule f L known (suc k) held bs [] e n first few = absurd (omega arith)
+plain-run rule f L known (suc k) held bs (x ∷ plain) e n first few =
     let more = held ++ (x ∷ []) in
     let rest = drop (span f 1) bs in
     let again : more ++ plain ≡ held ++ (x ∷ plain) = append-snoc held x plain in
     let begin : getD more 0 0 ≡ L = front held x plain ∙ first in
     let size : length more ≡ suc (length held) = length-snoc held x in
-    let one = one-plain L known held (seen f bs) x plain e begin (omega arith) in
+    let one = one-plain rule L known held (seen f bs) x plain e begin (omega arith) in
     let later =
-    plain-run f L known k more rest plain (after-one f bs x plain e .rest) (omega arith)
+    plain-run rule f L known k more rest plain (after-one f bs x plain e .rest) (omega arith)
     (ap (λ l. getD l 0 0) again ∙ first) (omega arith) in
     let n : span f 1 + span f k ≡ span f (suc k) = span-more f 1 k ∙ ap (span f) (omega arith) in
     one ∙ ap (usedMore (span f 1)) later
-    ∙ used-twice (span f 1) (span f k) (scanOf (inFrame f (more ++ take k plain)) (drop (span f k) rest))
+    ∙ used-twice (span f 1) (span f k) (scanOf rule (inFrame f (more ++ take k plain)) (drop (span f k) rest))
     ∙ rw (append-snoc held x (take k plain), drop-drop (span f k) (span f 1) bs, n)
   where
     front : (held : List ℕ) (x : ℕ) (plain : List ℕ) → getD (held ++ (x ∷ [])) 0 0 ≡ getD (held ++ (x ∷ plain)) 0 0

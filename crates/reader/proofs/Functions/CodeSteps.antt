@@ -12,6 +12,7 @@ use lib.ListN.{length, getD}
 use borrow.Author.Tests.{eq-eqb, ne-eqb, lt-ltb, le-ltb, le-leb, lt-leb}
 use Rattle.standard.specs.declared.Framing.{Framing}
 use Rattle.standard.specs.declared.Framing.the-variants.{Binary, Ascii}
+use Rattle.standard.specs.declared.Escapes.{Escapes}
 use Rattle.standard.specs.Messages.{lengthOk}
 use Rattle.standard.specs.Framing.{startOf, valueOf}
 use Rattle.standard.specs.Judge.{handing, wholeOf}
@@ -31,14 +32,14 @@ all-held (b ∷ bytes) n e = rw (← e, eqb·suc-zero (length bytes))
 
 -- ---- a start or none
 
-pub at-start : (m : Mode) (bytes : List ℕ) (b : ℕ) → b ≡ startOf (framingOf m) → stepIn m b bytes ≡ opensIn m bytes
+pub at-start : (rule : Escapes) (m : Mode) (bytes : List ℕ) (b : ℕ) → b ≡ startOf (framingOf m) → stepIn rule m b bytes ≡ opensIn m bytes
 unfolding stepOf
-at-start m bytes b e = rw (eq-eqb b _ e)
+at-start rule m bytes b e = rw (eq-eqb b _ e)
 
-pub no-start : (m : Mode) (bytes : List ℕ) (b : ℕ) → (b ≡ startOf (framingOf m) → ⊥)
-    → stepIn m b bytes ≡ goesOn m bytes b
+pub no-start : (rule : Escapes) (m : Mode) (bytes : List ℕ) (b : ℕ) → (b ≡ startOf (framingOf m) → ⊥)
+    → stepIn rule m b bytes ≡ goesOn rule m bytes b
 unfolding stepOf
-no-start m bytes b h = rw (ne-eqb b _ h)
+no-start rule m bytes b h = rw (ne-eqb b _ h)
 
 -- ---- a recovered byte more
 

@@ -11,11 +11,13 @@ use lib.ListN.{length, drop, length-append}
 use lib.Seq.{append-snoc}
 use borrow.Author.Tests.{leb-true, leb-false, le-leb, lt-ltb}
 use Rattle.standard.specs.declared.Framing.the-variants.{Ascii}
+use Rattle.standard.specs.declared.Escapes.{Escapes}
 use Rattle.standard.specs.Messages.{lengthOk}
 use Rattle.standard.specs.Framing.{valueOf, digitsOf, pairs, noDigit}
 use Rattle.standard.specs.Judge.{handing, decided, unfinished, plain, wholeOf, atStop, ended, frameJudged, judgeAfter}
 use Rattle.standard.proofs.Framings.{digit-value}
 use Rattle.standard.proofs.Decided.{whole-front}
+use Rattle.standard.proofs.Refusals.{up-to-8}
 use Rattle.reader.specs.declared.Mode.{Mode}
 use Rattle.reader.specs.declared.Mode.the-variants.{Open, Digit}
 use Rattle.reader.specs.Step.{framingOf, goes, ends, takes, takesDigit, goesOn}
@@ -54,8 +56,8 @@ digit-end (L ∷ rest) d k =
     rw (append-nil rest) (frame-short L rest none (endFrom (2 * suc (length rest) + 1) []) (k .0) (k .1))
 
 -- from the start on it is the judgement of the part
-pub ascii-new : (q : List ℕ) → spelt none [] q ≡ judgeAfter Ascii q
-ascii-new q =
+pub ascii-new : (rule : Escapes) (q : List ℕ) → spelt none [] q ≡ judgeAfter rule Ascii q
+ascii-new rule q =
     frame-end (pairs (digitsOf q)) (noDigit q) (endFrom (2 * 0) q) (ended Ascii q)
     (λ L rest e. rw (sub-zero (2 * (L + 3))))
 
@@ -101,11 +103,11 @@ spend held high b d q k e =
 -- ---- one byte
 
 -- two digits make a byte: the length, or one after it
-paired : (held : List ℕ) (h d b : ℕ) → valueOf b ≡ some d → Does (Digit h) held b (takes Ascii held (h * 16 + d))
+paired : (rule : Escapes) (held : List ℕ) (h d b : ℕ) → valueOf b ≡ some d → Does rule (Digit h) held b (takes Ascii held (h * 16 + d))
 unfolding pairs
-paired [] h d b e =
+paired rule [] h d b e =
     let x = h * 16 + d in
-    by-test (Does (Digit h) [] b) (lengthOk x) (goes (Open Ascii) (x ∷ [])) (ends Ascii (handing 4 []) [])
+    by-test (Does rule (Digit h) [] b) (lengthOk x) (goes (Open Ascii) (x ∷ [])) (ends Ascii (handing 4 []) [])
     (λ l. on (record {
       was = refl;
       is = refl;
@@ -120,13 +122,13 @@ paired [] h d b e =
       grown = omega arith;
       few = λ k. omega arith;
       stands = λ m. refl;
-      sheet = omega arith;
+      sheet = up-to-8 rule (omega arith);
       left = λ k q. spend [] (some h) b d q tt e ∙ frame-bad x (pairs (digitsOf q)) (noDigit q) (endFrom 2 q) l;
     }))
-paired (L ∷ rest) h d b e =
+paired rule (L ∷ rest) h d b e =
     let x = h * 16 + d in
     let two : 2 * suc (suc (length rest)) ≡ 2 * suc (length rest) + 1 + 1 = omega arith in
-    let goes-on : On (Digit h) (L ∷ rest) b (Open Ascii) (L ∷ rest ++ (x ∷ [])) = record {
+    let goes-on : On rule (Digit h) (L ∷ rest) b (Open Ascii) (L ∷ rest ++ (x ∷ [])) = record {
       was = refl;
       is = refl;
       framing = refl;
@@ -139,27 +141,27 @@ paired (L ∷ rest) h d b e =
     on goes-on
 
 -- no digit where one is due
-none-due : (m : Mode) (high : Option ℕ) (held : List ℕ) (b : ℕ) → ((q : List ℕ) → leftOf m held q ≡ spelt high held q)
+none-due : (rule : Escapes) (m : Mode) (high : Option ℕ) (held : List ℕ) (b : ℕ) → ((q : List ℕ) → leftOf rule m held q ≡ spelt high held q)
     → isOpen m ≡ true → framingOf m ≡ Ascii → (Fits m held → Few 2 held) → valueOf b ≡ none
-    → Does m held b (ends Ascii (handing 2 []) held)
-none-due m high held b same o f few e =
-    let decides : Over m held b Ascii (handing 2 []) held = record {
+    → Does rule m held b (ends Ascii (handing 2 []) held)
+none-due rule m high held b same o f few e =
+    let decides : Over rule m held b Ascii (handing 2 []) held = record {
       was = o;
       framing = sym f;
       grown = omega arith;
       few = few-held m held;
       stands = λ m. refl;
-      sheet = omega arith;
+      sheet = up-to-8 rule (omega arith);
       left = λ k q. same (b ∷ q) ∙ no-digit held high b (few k) e q;
     } in
     over decides
 
 -- the first digit of a pair
-digit-due : (held : List ℕ) (b : ℕ) → (Few 3 held → Few 2 held) → (o : Option ℕ) → valueOf b ≡ o
-    → Does (Open Ascii) held b (takesDigit none held o)
-digit-due held b few none e = none-due (Open Ascii) none held b (λ q. refl) refl refl (λ k. few (k .0)) e
-digit-due held b few (some d) e =
-    let goes-on : On (Open Ascii) held b (Digit d) held = record {
+digit-due : (rule : Escapes) (held : List ℕ) (b : ℕ) → (Few 3 held → Few 2 held) → (o : Option ℕ) → valueOf b ≡ o
+    → Does rule (Open Ascii) held b (takesDigit none held o)
+digit-due rule held b few none e = none-due rule (Open Ascii) none held b (λ q. refl) refl refl (λ k. few (k .0)) e
+digit-due rule held b few (some d) e =
+    let goes-on : On rule (Open Ascii) held b (Digit d) held = record {
       was = refl;
       is = refl;
       framing = refl;
@@ -170,22 +172,22 @@ digit-due held b few (some d) e =
     on goes-on
 
 -- the second
-second-due : (held : List ℕ) (h b : ℕ) (o : Option ℕ) → valueOf b ≡ o
-    → Does (Digit h) held b (takesDigit (some h) held o)
-second-due held h b none e = none-due (Digit h) (some h) held b (λ q. refl) refl refl (λ k. k .0) e
-second-due held h b (some d) e = paired held h d b e
+second-due : (rule : Escapes) (held : List ℕ) (h b : ℕ) (o : Option ℕ) → valueOf b ≡ o
+    → Does rule (Digit h) held b (takesDigit (some h) held o)
+second-due rule held h b none e = none-due rule (Digit h) (some h) held b (λ q. refl) refl refl (λ k. k .0) e
+second-due rule held h b (some d) e = paired rule held h d b e
 
 -- a byte with a digit pending
-pub digit : (held : List ℕ) (h b : ℕ) → Does (Digit h) held b (goesOn (Digit h) held b)
-digit held h b = second-due held h b (valueOf b) refl
+pub digit : (rule : Escapes) (held : List ℕ) (h b : ℕ) → Does rule (Digit h) held b (goesOn rule (Digit h) held b)
+digit rule held h b = second-due rule held h b (valueOf b) refl
 
 -- a byte with none pending
-pub ascii : (held : List ℕ) (b : ℕ) → Does (Open Ascii) held b (goesOn (Open Ascii) held b)
+pub ascii : (rule : Escapes) (held : List ℕ) (b : ℕ) → Does rule (Open Ascii) held b (goesOn rule (Open Ascii) held b)
 unfolding pairs digitsOf
-ascii [] b = digit-due [] b (λ k. tt) (valueOf b) refl
-ascii (L ∷ rest) b =
+ascii rule [] b = digit-due rule [] b (λ k. tt) (valueOf b) refl
+ascii rule (L ∷ rest) b =
     let stop : List (Bool × ℕ) = (not (eqb b 0x0D), 3) ∷ [] in
-    by-test (Does (Open Ascii) (L ∷ rest) b) (leb (L + 2) (length rest)) (ends Ascii (wholeOf stop L rest) (L ∷ rest))
+    by-test (Does rule (Open Ascii) (L ∷ rest) b) (leb (L + 2) (length rest)) (ends Ascii (wholeOf stop L rest) (L ∷ rest))
     (takesDigit none (L ∷ rest) (valueOf b))
     (λ e. over (record {
       was = refl;
@@ -193,10 +195,10 @@ ascii (L ∷ rest) b =
       grown = omega arith;
       few = few-held (Open Ascii) (L ∷ rest);
       stands = whole-stands stop L rest;
-      sheet = whole-sheet stop L rest refl;
+      sheet = up-to-8 rule (whole-sheet stop L rest refl);
       left = λ k q.
           let due : length rest ≡ L + 2 = omega (arith, leb-true, k .0 .1) in
           at-stop L rest (pairs (digitsOf (b ∷ q))) (b ∷ q) (noDigit (b ∷ q)) (k .0 .0) due
           ∙ ap decided (whole-front stop L rest (pairs (digitsOf (b ∷ q))) (omega arith));
     }))
-    (λ e. digit-due (L ∷ rest) b (λ k. (k .0, omega (arith, leb-false))) (valueOf b) refl)
+    (λ e. digit-due rule (L ∷ rest) b (λ k. (k .0, omega (arith, leb-false))) (valueOf b) refl)

@@ -11,6 +11,7 @@ use lib.ListN.{length, getD, take, drop, length-append, length-drop}
 use lib.Seq.{length-take-le, take-append-seam, drop-append-add, drop-drop}
 use borrow.Author.Tests.{eq-eqb, ne-eqb}
 use Rattle.standard.specs.declared.Framing.{Framing}
+use Rattle.standard.specs.declared.Escapes.{Escapes}
 use Rattle.standard.specs.declared.Said.{Said}
 use Rattle.standard.specs.Words.{laid}
 use Rattle.standard.specs.Messages.{longest}
@@ -77,7 +78,7 @@ sound-with m bytes held kept (inr e) k =
     rw (e, laid-front bytes kept) (fits-sound m kept (drop (length kept) bytes) (rw e at k))
 
 -- a sound reader reads, an unsound one is refused
-pub read-sound : (r : Reader) (bs : List ℕ) → soundReader r ≡ true → readOf r bs ≡ readFrom r (scanOf (stateOf r) bs)
+pub read-sound : (r : Reader) (bs : List ℕ) → soundReader r ≡ true → readOf r bs ≡ readFrom r (scanOf (r .escapes) (stateOf r) bs)
 unfolding readOf
 read-sound r bs h = rw h
 
@@ -87,16 +88,16 @@ read-unsound r bs h = rw h
 
 module _ (r : Reader) (bs : List ℕ) (h : soundReader r ≡ true) where
   abbrev scan : Read
-  scan = scanOf (stateOf r) bs
+  scan = scanOf (r .escapes) (stateOf r) bs
 
   -- the state after a read
-  pub state-read : stateOf (readOf r bs .reader) ≡ scanOf (stateOf r) bs .next
-  state-read = rw (read-sound r bs h) (state-after r (scan .next) (scan .kept) (keeps-scan (stateOf r) bs .begins))
+  pub state-read : stateOf (readOf r bs .reader) ≡ scanOf (r .escapes) (stateOf r) bs .next
+  state-read = rw (read-sound r bs h) (state-after r (scan .next) (scan .kept) (keeps-scan (r .escapes) (stateOf r) bs .begins))
 
   -- a sound reader stays sound
   pub sound-read : soundReader (readOf r bs .reader) ≡ true
   sound-read =
-      let w = keeps-scan (stateOf r) bs in
+      let w = keeps-scan (r .escapes) (stateOf r) bs in
       rw (read-sound r bs h)
       (sound-with (scan .next .mode) (r .bytes) (scan .next .held) (scan .kept) (w .begins) (w .fits (reader-fits r h)))
 
@@ -105,27 +106,35 @@ unfoldable pub Whole : Reader → Type 0
 Whole r = length (r .bytes) ≡ longest + 3
 
 -- a fresh reader has it, and it stays
-pub whole-fresh : (f : Framing) → Whole (freshReader f)
+pub whole-fresh : (rule : Escapes) (f : Framing) → Whole (freshReader rule f)
 unfolding Whole
-whole-fresh f = refl
+whole-fresh rule f = refl
 
 whole-by : (r : Reader) (bs : List ℕ) (t : Bool) → soundReader r ≡ t → Whole r → Whole (readOf r bs .reader)
 unfolding Whole
 whole-by r bs true h w =
-    let few = keeps-scan (stateOf r) bs .few (reader-fits r h) in
-    rw (read-sound r bs h) (length-laid (r .bytes) (scanOf (stateOf r) bs .kept) (omega arith) ∙ w)
+    let few = keeps-scan (r .escapes) (stateOf r) bs .few (reader-fits r h) in
+    rw (read-sound r bs h) (length-laid (r .bytes) (scanOf (r .escapes) (stateOf r) bs .kept) (omega arith) ∙ w)
 whole-by r bs false h w = rw (read-unsound r bs h) w
 
 pub whole-read : (r : Reader) (bs : List ℕ) → Whole r → Whole (readOf r bs .reader)
 whole-read r bs w = whole-by r bs (soundReader r) refl w
 
--- a reader of which the state is given
-readerWith : Reader → ℕ → List ℕ → Reader
-readerWith r held bytes = record { mode = r .mode; held = held; bytes = bytes }
+-- a reader that holds so many bytes of this array
+abbrev pub readerWith : Reader → ℕ → List ℕ → Reader
+readerWith r held bytes = record { mode = r .mode; held = held; bytes = bytes; escapes = r .escapes }
+
+-- the rule of escapes is handed back as it was
+pub rule-stays : (r : Reader) (bs : List ℕ) → readOf r bs .reader .escapes ≡ r .escapes
+rule-stays r bs = by-sound (soundReader r) refl
+  where
+    by-sound : (t : Bool) → soundReader r ≡ t → readOf r bs .reader .escapes ≡ r .escapes
+    by-sound true h = rw (read-sound r bs h)
+    by-sound false h = rw (read-unsound r bs h)
 
 -- an empty read with a sound state hands the reader back, and uses and gives nothing
 pub read-none : (r : Reader) → Whole r → soundReader r ≡ true → readOf r [] ≡ record { reader = r; used = 0; said = [] }
-unfolding scanOf Whole readerWith
+unfolding scanOf Whole
 read-none r w h =
     let fits : length (take (r .held) (r .bytes)) ≡ r .held =
     length-take-le (r .held) (r .bytes) (omega (arith, sound-held r h)) in
@@ -141,9 +150,9 @@ Repeated r b bs =
     readOf r (b ∷ bs) ≡ thenRead (readOf r (b ∷ []) .said) (readOf r (b ∷ [])) (readOf (readOf r (b ∷ []) .reader) bs)
 
 -- an answer of which the array is given
-answerWith : Read → List ℕ → Given
-answerWith read bytes = record {
-  reader = record { mode = read .next .mode; held = length (read .next .held); bytes = bytes };
+answerWith : Escapes → Read → List ℕ → Given
+answerWith rule read bytes = record {
+  reader = record { mode = read .next .mode; held = length (read .next .held); bytes = bytes; escapes = rule };
   used = read .used;
   said = read .said;
 }
@@ -161,30 +170,30 @@ module _ (r : Reader) (h : soundReader r ≡ true) where
 
   -- the read goes on from the reader after a byte that said nothing
   pub again : (next : State) (bs : List ℕ) → Fits (next .mode) (next .held) → Quiet (stateOf r) next
-      → readOf (readerAfter r next (next .held)) bs ≡ readFrom r (scanOf next bs)
+      → readOf (readerAfter r next (next .held)) bs ≡ readFrom r (scanOf (r .escapes) next bs)
   unfolding answerWith
   again next bs k q =
       let r₁ = readerAfter r next (next .held) in
-      let w = keeps-scan next bs in
+      let w = keeps-scan (r .escapes) next bs in
       read-sound r₁ bs (sound-with (next .mode) (r .bytes) (next .held) (next .held) (inr refl) k)
-      ∙ ap (λ s. readFrom r₁ (scanOf s bs)) (state-after r next (next .held) (inr refl))
-      ∙ ap (answerWith (scanOf next bs)) (same-array next (scanOf next bs .kept) q (w .longer))
+      ∙ ap (λ s. readFrom r₁ (scanOf (r .escapes) s bs)) (state-after r next (next .held) (inr refl))
+      ∙ ap (answerWith (r .escapes) (scanOf (r .escapes) next bs)) (same-array next (scanOf (r .escapes) next bs .kept) q (w .longer))
 
-  by-said : (b : ℕ) (bs : List ℕ) (o : List Handed) → stepOf (stateOf r) b .said ≡ o → Repeated r b bs
+  by-said : (b : ℕ) (bs : List ℕ) (o : List Handed) → stepOf (r .escapes) (stateOf r) b .said ≡ o → Repeated r b bs
   unfolding scanOf
   by-said b bs [] e =
-      let w = keeps-step (stateOf r) b in
+      let w = keeps-step (r .escapes) (stateOf r) b in
       rw (
         read-sound r (b ∷ bs) h,
         read-sound r (b ∷ []) h,
         e,
-        again (stepOf (stateOf r) b .next) bs
+        again (stepOf (r .escapes) (stateOf r) b .next) bs
             (w .0 .fits (reader-fits r h)) (w .1 e),
       )
   by-said b bs (g ∷ gs) e = rw (read-sound r (b ∷ bs) h, read-sound r (b ∷ []) h, e)
 
 steps-by : (r : Reader) (b : ℕ) (bs : List ℕ) (t : Bool) → soundReader r ≡ t → Repeated r b bs
-steps-by r b bs true h = by-said r h b bs (stepOf (stateOf r) b .said) refl
+steps-by r b bs true h = by-said r h b bs (stepOf (r .escapes) (stateOf r) b .said) refl
 steps-by r b bs false h = rw (read-unsound r (b ∷ bs) h, read-unsound r (b ∷ []) h)
 
 -- for every reader, sound or not

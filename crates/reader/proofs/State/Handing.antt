@@ -6,11 +6,13 @@ use mathlib.Core.Bool.{Bool, true, false}
 use mathlib.Core.List.{List, [], _∷_, map, cons≢nil, nil≢cons, head-eq-of-cons-eq}
 use lib.ListN.{length, getD, drop, replicate}
 use Rattle.standard.specs.declared.Framing.{Framing}
+use Rattle.standard.specs.declared.Escapes.{Escapes}
 use Rattle.standard.specs.declared.Said.{Said}
 use Rattle.standard.specs.declared.Said.the-variants.{Silent, Gave}
 use Rattle.standard.specs.Words.{laid}
 use Rattle.standard.specs.Messages.{longest}
 use Rattle.standard.specs.Judge.{Handed, verdictFor, verdictsIn, handedIn}
+use Rattle.standard.proofs.Refusals.{ofTheStream}
 use Rattle.reader.specs.declared.Reader.{Reader}
 use Rattle.reader.specs.Read.{Given, scanOf, stateOf, soundReader, freshReader, readOf}
 use Rattle.reader.proofs.State.Kept.{Hands, keeps-scan}
@@ -36,7 +38,7 @@ record Laid (r : Reader) (a : Given) : Type 0 where
 laid-by : (r : Reader) (bs : List ℕ) (t : Bool) → soundReader r ≡ t → Laid r (readOf r bs)
 laid-by r bs true h =
     rw (read-sound r bs h)
-    (record { kept = scanOf (stateOf r) bs .kept; hands = keeps-scan (stateOf r) bs .hands; bytes = refl })
+    (record { kept = scanOf (r .escapes) (stateOf r) bs .kept; hands = keeps-scan (r .escapes) (stateOf r) bs .hands; bytes = refl })
 laid-by r bs false h = rw (read-unsound r bs h) (record { kept = []; hands = λ more. refl; bytes = refl })
 
 -- the verdict and the reader tell what is handed out
@@ -64,12 +66,12 @@ pub one-verdict : (r : Reader) (bs : List ℕ)
     → verdictsIn (saidFor (readOf r bs .said)) ≡ map verdictFor (readOf r bs .said)
 one-verdict r bs = let w = laid-by r bs (soundReader r) refl in at-most-one (readOf r bs .said) (w .kept) (w .hands)
 
--- a sound reader gives 0 to 8, and never 12
+-- a sound reader gives 0 to 8, by the strict rule 15, and never 12
 pub sound-verdict : (r : Reader) (bs : List ℕ) (h : Handed) (hs : List Handed) → soundReader r ≡ true
-    → readOf r bs .said ≡ h ∷ hs → h .verdict ≤ 8
+    → readOf r bs .said ≡ h ∷ hs → ofTheStream (r .escapes) (h .verdict) ≡ true
 sound-verdict r bs h hs k e =
-    let said : scanOf (stateOf r) bs .said ≡ h ∷ hs = rw (read-sound r bs k) at e in
-    rw said at (keeps-scan (stateOf r) bs .sheet)
+    let said : scanOf (r .escapes) (stateOf r) bs .said ≡ h ∷ hs = rw (read-sound r bs k) at e in
+    rw said at (keeps-scan (r .escapes) (stateOf r) bs .sheet)
 
 -- an unsound one gives 12, which carries nothing, uses no byte and comes back
 pub unsound-verdict : (r : Reader) (bs : List ℕ) → soundReader r ≡ false
@@ -84,5 +86,5 @@ zeros (suc n) zero = refl
 zeros (suc n) (suc i) = zeros n i
 
 -- every byte of its array is 0
-pub fresh-zero : (f : Framing) (i : ℕ) → getD (freshReader f .bytes) i 0 ≡ 0
-fresh-zero f i = zeros (longest + 3) i
+pub fresh-zero : (rule : Escapes) (f : Framing) (i : ℕ) → getD (freshReader rule f .bytes) i 0 ≡ 0
+fresh-zero rule f i = zeros (longest + 3) i

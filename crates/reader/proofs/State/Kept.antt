@@ -9,9 +9,11 @@ use mathlib.Core.Bool.{true, false, false≢true}
 use mathlib.Core.List.{List, [], _∷_, cons≢nil}
 use lib.Dec.{eqb}
 use lib.ListN.{length}
+use Rattle.standard.specs.declared.Escapes.{Escapes}
 use Rattle.standard.specs.Messages.{longest}
 use Rattle.standard.specs.Framing.{startOf}
 use Rattle.standard.specs.Judge.{Handed, handing}
+use Rattle.standard.proofs.Refusals.{ofTheStream, up-to-8}
 use Rattle.reader.specs.declared.Mode.{Mode}
 use Rattle.reader.specs.declared.Mode.the-variants.{Skipping}
 use Rattle.reader.specs.Step.{State, Step, framingOf, isOpen, cutShort, opens, goesOn, stepOf}
@@ -27,16 +29,16 @@ Hands [] kept = Unit {0}
 Hands (h ∷ []) kept = Stands (h .message) kept
 Hands (h ∷ g ∷ hs) kept = ⊥
 
--- of verdicts 0 to 8
-abbrev pub Sheet : List Handed → Type 0
-Sheet [] = Unit {0}
-Sheet (h ∷ hs) = h .verdict ≤ 8
+-- of verdicts 0 to 8, and by the strict rule 15
+abbrev pub Sheet : Escapes → List Handed → Type 0
+Sheet rule [] = Unit {0}
+Sheet rule (h ∷ hs) = ofTheStream rule (h .verdict) ≡ true
 
 -- of a step or a read from s
-pub record Kept (s next : State) (said : List Handed) (kept : List ℕ) : Type 0 where
+pub record Kept (rule : Escapes) (s next : State) (said : List Handed) (kept : List ℕ) : Type 0 where
   pub begins : (next .held ≡ []) ⊎ (next .held ≡ kept)
   pub hands : Hands said kept
-  pub sheet : Sheet said
+  pub sheet : Sheet rule said
   pub fits : Fits (s .mode) (s .held) → Fits (next .mode) (next .held)
   pub few : Fits (s .mode) (s .held) → length kept ≤ longest + 3
   pub longer : isOpen (s .mode) ≡ true → length (s .held) ≤ length kept
@@ -48,10 +50,10 @@ pub record Quiet (s next : State) : Type 0 where
 
 -- ---- one byte
 
-abbrev Keeps : State → Step → Type 0
-Keeps s t = Kept s (t .next) (t .said) (t .kept) × (t .said ≡ [] → Quiet s (t .next))
+abbrev Keeps : Escapes → State → Step → Type 0
+Keeps rule s t = Kept rule s (t .next) (t .said) (t .kept) × (t .said ≡ [] → Quiet s (t .next))
 
-does-keep : {m : Mode} {held : List ℕ} {b : ℕ} {t : Step} → Does m held b t → Keeps (record { mode = m; held = held }) t
+does-keep : {rule : Escapes} {m : Mode} {held : List ℕ} {b : ℕ} {t : Step} → Does rule m held b t → Keeps rule (record { mode = m; held = held }) t
 does-keep (skips {f} {held} {b}) = (
   record {
     begins = inr refl;
@@ -94,34 +96,34 @@ by-cut P m cut none = rw (cut-is m) (by-test P (isOpen m) (handing 1 [] ∷ []) 
 cut-loud : (m : Mode) → cutShort m ≡ [] → isOpen m ≡ true → ⊥
 cut-loud m = by-cut (λ l. l ≡ [] → isOpen m ≡ true → ⊥) m (λ o e p. cons≢nil e) (λ n e p. false≢true (sym n ∙ p))
 
-pub keeps-step : (s : State) (b : ℕ) → Keeps s (stepOf s b)
+pub keeps-step : (rule : Escapes) (s : State) (b : ℕ) → Keeps rule s (stepOf rule s b)
 unfolding stepOf
-keeps-step s b =
-    by-test (Keeps s) (eqb b (startOf (framingOf (s .mode)))) (opens s) (goesOn (s .mode) (s .held) b)
+keeps-step rule s b =
+    by-test (Keeps rule s) (eqb b (startOf (framingOf (s .mode)))) (opens s) (goesOn rule (s .mode) (s .held) b)
     (λ e. (
       record {
         begins = inl refl;
         hands = by-cut (λ l. Hands l (s .held)) (s .mode) (λ o more. refl) (λ o. tt);
-        sheet = by-cut Sheet (s .mode) (λ o. omega arith) (λ o. tt);
+        sheet = by-cut (Sheet rule) (s .mode) (λ o. up-to-8 rule (omega arith)) (λ o. tt);
         fits = λ k. (tt, refl);
         few = few-held (s .mode) (s .held);
         longer = λ o. le-refl (length (s .held));
       },
       λ q. record { stays = inr refl; open-on = λ o. absurd (cut-loud (s .mode) q o) },
     ))
-    (λ e. does-keep (does (s .mode) (s .held) b))
+    (λ e. does-keep (does rule (s .mode) (s .held) b))
 
 -- what soundness says stays at every byte
-pub fits-step : (s : State) (b : ℕ) → Fits (s .mode) (s .held) → Fits (stepOf s b .next .mode) (stepOf s b .next .held)
-fits-step s b = keeps-step s b .0 .fits
+pub fits-step : (rule : Escapes) (s : State) (b : ℕ) → Fits (s .mode) (s .held) → Fits (stepOf rule s b .next .mode) (stepOf rule s b .next .held)
+fits-step rule s b = keeps-step rule s b .0 .fits
 
 -- ---- a read
 
-keeps-on : (s : State) (o : List Handed) (first : Step) (later : Read) → Kept s (first .next) o (first .kept)
+keeps-on : (rule : Escapes) (s : State) (o : List Handed) (first : Step) (later : Read) → Kept rule s (first .next) o (first .kept)
     → (o ≡ [] → Quiet s (first .next))
-    → Kept (first .next) (later .next) (later .said) (later .kept)
-    → Kept s (readOn o first later .next) (readOn o first later .said) (readOn o first later .kept)
-keeps-on s [] first later k q w = record {
+    → Kept rule (first .next) (later .next) (later .said) (later .kept)
+    → Kept rule s (readOn o first later .next) (readOn o first later .said) (readOn o first later .kept)
+keeps-on rule s [] first later k q w = record {
   begins = w .begins;
   hands = w .hands;
   sheet = w .sheet;
@@ -129,12 +131,12 @@ keeps-on s [] first later k q w = record {
   few = λ x. w .few (k .fits x);
   longer = λ o. let y = q refl .open-on o in le-trans (y .1) (w .longer (y .0));
 }
-keeps-on s (h ∷ []) first later k q w = k
-keeps-on s (h ∷ g ∷ hs) first later k q w = absurd (k .hands)
+keeps-on rule s (h ∷ []) first later k q w = k
+keeps-on rule s (h ∷ g ∷ hs) first later k q w = absurd (k .hands)
 
-pub keeps-scan : (s : State) (bs : List ℕ) → Kept s (scanOf s bs .next) (scanOf s bs .said) (scanOf s bs .kept)
+pub keeps-scan : (rule : Escapes) (s : State) (bs : List ℕ) → Kept rule s (scanOf rule s bs .next) (scanOf rule s bs .said) (scanOf rule s bs .kept)
 unfolding scanOf
-keeps-scan s [] = record {
+keeps-scan rule s [] = record {
   begins = inr refl;
   hands = tt;
   sheet = tt;
@@ -142,6 +144,6 @@ keeps-scan s [] = record {
   few = few-held (s .mode) (s .held);
   longer = λ o. le-refl (length (s .held));
 }
-keeps-scan s (b ∷ bs) =
-    let t = stepOf s b in
-    keeps-on s (t .said) t (scanOf (t .next) bs) (keeps-step s b .0) (keeps-step s b .1) (keeps-scan (t .next) bs)
+keeps-scan rule s (b ∷ bs) =
+    let t = stepOf rule s b in
+    keeps-on rule s (t .said) t (scanOf rule (t .next) bs) (keeps-step rule s b .0) (keeps-step rule s b .1) (keeps-scan rule (t .next) bs)

@@ -11,9 +11,10 @@ use lib.ListN.{length, take}
 use borrow.Author.Tests.{eqb-true}
 use Rattle.standard.specs.declared.Framing.{Framing}
 use Rattle.standard.specs.declared.Framing.the-variants.{Binary, Ascii}
+use Rattle.standard.specs.declared.Escapes.{Escapes}
 use Rattle.standard.specs.Words.{firstOf}
 use Rattle.standard.specs.Messages.{longestKnown, lengthOk, messageTests, checkOf}
-use Rattle.standard.specs.Framing.{startOf, valueOf}
+use Rattle.standard.specs.Framing.{startOf, mayFollow, valueOf}
 use Rattle.standard.specs.Judge.{Handed, sumsDiffer, wholeOf}
 use Rattle.standard.proofs.Messages.{good-few}
 use Rattle.standard.proofs.Judge.{first-none}
@@ -66,13 +67,15 @@ character-short (L ∷ rest) b =
     by-test (λ (t : Step). Short (t .said)) (leb (L + 2) (length rest)) _ _
     (λ e. stopped-short (not (eqb b 0x0D)) L rest) (λ e. digit-short none (L ∷ rest) (valueOf b))
 
-on-short : (m : Mode) (held : List ℕ) (b : ℕ) → Short (goesOn m held b .said)
-on-short (Skipping f) held b = tt
-on-short (Open Binary) held b =
+on-short : (rule : Escapes) (m : Mode) (held : List ℕ) (b : ℕ) → Short (goesOn rule m held b .said)
+on-short rule (Skipping f) held b = tt
+on-short rule (Open Binary) held b =
     by-test (λ (t : Step). Short (t .said)) (eqb b 0x7D) _ _ (λ e. tt) (λ e. takes-short Binary held b)
-on-short (Open Ascii) held b = character-short held b
-on-short Escape held b = takes-short Binary held (bitXor b 0x20)
-on-short (Digit h) held b = digit-short (some h) held (valueOf b)
+on-short rule (Open Ascii) held b = character-short held b
+on-short rule Escape held b =
+    by-test (λ (t : Step). Short (t .said)) (mayFollow rule b) _ _ (λ e. takes-short Binary held (bitXor b 0x20))
+    (λ e. zero-le)
+on-short rule (Digit h) held b = digit-short (some h) held (valueOf b)
 
 cut-short : (m : Mode) (held : List ℕ) → Short (opens (record { mode = m; held = held }) .said)
 cut-short (Skipping f) held = tt
@@ -80,28 +83,28 @@ cut-short (Open f) held = zero-le
 cut-short Escape held = zero-le
 cut-short (Digit d) held = zero-le
 
-step-short : (s : State) (b : ℕ) → Short (stepOf s b .said)
+step-short : (rule : Escapes) (s : State) (b : ℕ) → Short (stepOf rule s b .said)
 unfolding stepOf
-step-short s b =
+step-short rule s b =
     by-test (λ (t : Step). Short (t .said)) (eqb b (startOf (framingOf (s .mode)))) _ _
-    (λ e. cut-short (s .mode) (s .held)) (λ e. on-short (s .mode) (s .held) b)
+    (λ e. cut-short (s .mode) (s .held)) (λ e. on-short rule (s .mode) (s .held) b)
 
 on-by : (said : List Handed) (first : Step) (later : Read) → Short said → Short (later .said)
     → Short (readOn said first later .said)
 on-by [] first later p q = q
 on-by (h ∷ hs) first later p q = p
 
-scan-short : (s : State) (bs : List ℕ) → Short (scanOf s bs .said)
+scan-short : (rule : Escapes) (s : State) (bs : List ℕ) → Short (scanOf rule s bs .said)
 unfolding scanOf
-scan-short s [] = tt
-scan-short s (b ∷ bs) =
-    on-by (stepOf s b .said) (stepOf s b) (scanOf (stepOf s b .next) bs) (step-short s b)
-    (scan-short (stepOf s b .next) bs)
+scan-short rule s [] = tt
+scan-short rule s (b ∷ bs) =
+    on-by (stepOf rule s b .said) (stepOf rule s b) (scanOf rule (stepOf rule s b .next) bs) (step-short rule s b)
+    (scan-short rule (stepOf rule s b .next) bs)
 
 -- from every reader, sound or not
 pub read-short : (r : Reader) (bs : List ℕ) → Short (readOf r bs .said)
 read-short r bs = by-sound (soundReader r) refl
   where
     by-sound : (t : Bool) → soundReader r ≡ t → Short (readOf r bs .said)
-    by-sound true h = rw (read-sound r bs h) (scan-short (stateOf r) bs)
+    by-sound true h = rw (read-sound r bs h) (scan-short (r .escapes) (stateOf r) bs)
     by-sound false h = rw (read-unsound r bs h) zero-le

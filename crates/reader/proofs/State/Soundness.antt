@@ -10,6 +10,7 @@ use lib.ListN.{length, getD, take, length-take}
 use borrow.Author.Tests.{leb-true, le-leb}
 use Rattle.standard.specs.declared.Framing.{Framing}
 use Rattle.standard.specs.declared.Framing.the-variants.{Binary, Ascii}
+use Rattle.standard.specs.declared.Escapes.{Escapes}
 use Rattle.standard.specs.Messages.{longest, lengthOk}
 use Rattle.standard.proofs.Messages.{both-true, length-ok}
 use Rattle.reader.specs.declared.Mode.{Mode}
@@ -102,5 +103,6 @@ sound-between Binary n L = refl
 sound-between Ascii n L = refl
 
 -- and an array without bytes holds none
-pub sound-empty : (m : Mode) (n : ℕ) → soundReader (record { mode = m; held = suc n; bytes = [] }) ≡ false
-sound-empty m n = rw (eqb·suc-zero n)
+pub sound-empty : (rule : Escapes) (m : Mode) (n : ℕ)
+    → soundReader (record { mode = m; held = suc n; bytes = []; escapes = rule }) ≡ false
+sound-empty rule m n = rw (eqb·suc-zero n)

@@ -1,5 +1,6 @@
 -- DEMAND 3 for verdicts, type bytes and messages: however a stream is cut into reads, a fresh reader hands out what the
--- parts of the uncut stream do, each judged from its whole bytes. One proof for both framings. Assumes nothing.
+-- parts of the uncut stream do, each judged from its whole bytes. One proof for both framings and both rules of escapes.
+-- Assumes nothing.
 use Prim.Native.Nat.{ℕ, zero, suc, _+_, _-_, _≤_}
 use native.Mathlib.Omega.{arith}
 use mathlib.Core.Path.{_≡_, refl, sym, ap, _∙_}
@@ -7,19 +8,22 @@ use mathlib.Core.Bool.{true, false}
 use mathlib.Core.List.{List, [], _∷_, _++_, append-assoc}
 use lib.ListN.{length, take, drop, length-append, length-drop, take-append-drop}
 use Rattle.standard.specs.declared.Framing.{Framing}
+use Rattle.standard.specs.declared.Escapes.{Escapes}
+use Rattle.standard.specs.declared.Escapes.the-variants.{Strict, Lenient}
 use Rattle.standard.specs.Messages.{among, checkOf}
 use Rattle.standard.specs.Framing.{startOf, frameOf}
 use Rattle.standard.specs.Judge.{Handed, decided, handing, judge}
-use Rattle.standard.specs.Stream.{handedOf}
+use Rattle.standard.specs.Stream.{handedOf, streamNeeded}
 use Rattle.standard.proofs.Framings.{Bytes}
 use Rattle.standard.proofs.Decided.{handed-amid-part}
 use Rattle.standard.proofs.Stream.{handed-amid}
+use Rattle.standard.proofs.Strict.{handed-alike}
 use Rattle.reader.specs.declared.Reader.{Reader}
 use Rattle.reader.specs.Step.{framingOf}
 use Rattle.reader.specs.Read.{Read, scanOf, stateOf, soundReader, freshReader, readOf}
 use Rattle.reader.specs.Calls.{joined, handedBefore, callsOf, drive, Calls, finished, call, streamTo}
 use Rattle.reader.proofs.State.Soundness.{reader-fits}
-use Rattle.reader.proofs.State.Arrays.{read-sound, state-read, sound-read}
+use Rattle.reader.proofs.State.Arrays.{read-sound, state-read, sound-read, rule-stays}
 use Rattle.reader.proofs.Stream.Parts.{run, run-append, run-parts}
 use Rattle.reader.proofs.Stream.Scans.{Scanned, scanned}
 use Rattle.reader.proofs.Stream.Leads.{lead-on}
@@ -28,50 +32,51 @@ use Rattle.reader.proofs.Stream.Leads.{lead-on}
 
 module _ (r : Reader) (bs : List ℕ) (h : soundReader r ≡ true) where
   abbrev scan : Read
-  scan = scanOf (stateOf r) bs
+  scan = scanOf (r .escapes) (stateOf r) bs
 
   -- what a call hands out, then what is left and whatever follows
   one-call : (rest : List ℕ)
-      → run (stateOf r) (bs ++ rest)
-      ≡ readOf r bs .said ++ run (stateOf (readOf r bs .reader)) (drop (readOf r bs .used) bs ++ rest)
+      → run (r .escapes) (stateOf r) (bs ++ rest)
+      ≡ readOf r bs .said ++ run (r .escapes) (stateOf (readOf r bs .reader)) (drop (readOf r bs .used) bs ++ rest)
   one-call rest =
       let s = stateOf r in
       let first = take (scan .used) bs in
       let left = drop (scan .used) bs in
-      let w : Scanned s bs scan = scanned s bs in
+      let w : Scanned (r .escapes) s bs scan = scanned (r .escapes) s bs in
       rw (state-read r bs h, read-sound r bs h)
-      (ap (λ l. run s (l ++ rest)) (sym (take-append-drop (scan .used) bs))
-      ∙ ap (run s) (append-assoc first left rest)
-      ∙ run-append s first (left ++ rest)
+      (ap (λ l. run (r .escapes) s (l ++ rest)) (sym (take-append-drop (scan .used) bs))
+      ∙ ap (run (r .escapes) s) (append-assoc first left rest)
+      ∙ run-append (r .escapes) s first (left ++ rest)
       ∙ rw (w .here, w .goes-to))
 
   -- a call that used no byte had none
   used-none : readOf r bs .used ≡ 0 → length bs ≡ 0
   used-none e =
-      let w : Scanned (stateOf r) bs scan = scanned (stateOf r) bs in
+      let w : Scanned (r .escapes) (stateOf r) bs scan = scanned (r .escapes) (stateOf r) bs in
       let z : scan .used ≡ 0 = rw (read-sound r bs h) at e in
       sym (w .or-all (sym (rw z at (w .here)))) ∙ z
 
 -- ---- every caller
 
 calls-run : {r : Reader} {reads : List (List ℕ)} {hs : List Handed} → Calls r reads hs → soundReader r ≡ true
-    → hs ≡ run (stateOf r) (joined reads)
+    → hs ≡ run (r .escapes) (stateOf r) (joined reads)
 calls-run finished h = refl
 calls-run (call {r} {bs} {reads} {again} {hs} e c) h =
-    ap (λ l. readOf r bs .said ++ l) (calls-run c (sound-read r bs h) ∙ ap (run (stateOf (readOf r bs .reader))) e)
+    ap (λ l. readOf r bs .said ++ l)
+    (rw (rule-stays r bs) at (calls-run c (sound-read r bs h)) ∙ ap (run (r .escapes) (stateOf (readOf r bs .reader))) e)
     ∙ sym (one-call r bs h (joined reads))
 
 -- from every sound reader: what the stream that leads to it and the reads hand out together
 pub sound-caller : (r : Reader) {reads : List (List ℕ)} {hs : List Handed} → soundReader r ≡ true
     → Bytes (stateOf r .held) → Calls r reads hs
-    → hs ≡ handedOf (framingOf (r .mode)) (streamTo r ++ joined reads)
+    → hs ≡ handedOf (r .escapes) (framingOf (r .mode)) (streamTo r ++ joined reads)
 sound-caller r {reads} h b c =
-    calls-run c h ∙ sym (lead-on (r .mode) (stateOf r .held) b (reader-fits r h) (joined reads))
+    calls-run c h ∙ sym (lead-on (r .escapes) (r .mode) (stateOf r .held) b (reader-fits r h) (joined reads))
 
 -- cut again as it likes
-pub any-caller : (f : Framing) {reads : List (List ℕ)} {hs : List Handed} → Calls (freshReader f) reads hs
-    → hs ≡ handedOf f (joined reads)
-any-caller f {reads} c = calls-run c refl ∙ run-parts f [] (joined reads) (tt, refl)
+pub any-caller : (rule : Escapes) (f : Framing) {reads : List (List ℕ)} {hs : List Handed} → Calls (freshReader rule f) reads hs
+    → hs ≡ handedOf rule f (joined reads)
+any-caller rule f {reads} c = calls-run c refl ∙ run-parts rule f [] (joined reads) (tt, refl)
 
 -- ---- the caller that hands in what is left, then the next read
 
@@ -105,15 +110,22 @@ calls-made (suc n) r (bs ∷ reads) h k =
     (enough-left n used bs left reads (length-drop used bs) (used-none r bs h) k))
 
 -- HOWEVER THE STREAM IS CUT INTO READS
-pub reads-are-parts : (f : Framing) (reads : List (List ℕ)) → drive (freshReader f) reads ≡ handedOf f (joined reads)
+pub reads-are-parts : (rule : Escapes) (f : Framing) (reads : List (List ℕ)) → drive (freshReader rule f) reads ≡ handedOf rule f (joined reads)
 unfolding drive
-reads-are-parts f reads =
-    any-caller f (calls-made (length (joined reads) + length reads) (freshReader f) reads refl (omega arith))
+reads-are-parts rule f reads =
+    any-caller rule f (calls-made (length (joined reads) + length reads) (freshReader rule f) reads refl (omega arith))
 
 -- so only the bytes count, and not the cuts
-pub cuts : (f : Framing) (reads others : List (List ℕ)) → joined reads ≡ joined others
-    → drive (freshReader f) reads ≡ drive (freshReader f) others
-cuts f reads others e = reads-are-parts f reads ∙ ap (handedOf f) e ∙ sym (reads-are-parts f others)
+pub cuts : (rule : Escapes) (f : Framing) (reads others : List (List ℕ)) → joined reads ≡ joined others
+    → drive (freshReader rule f) reads ≡ drive (freshReader rule f) others
+cuts rule f reads others e = reads-are-parts rule f reads ∙ ap (handedOf rule f) e ∙ sym (reads-are-parts rule f others)
+
+-- STRICTNESS COSTS NOBODY: where every escape of the stream was needed, a strict reader hands out what one of the old
+-- rule does
+pub strict-alike : (f : Framing) (reads : List (List ℕ)) → streamNeeded f (joined reads) ≡ true
+    → drive (freshReader Strict f) reads ≡ drive (freshReader Lenient f) reads
+strict-alike f reads h =
+    reads-are-parts Strict f reads ∙ handed-alike f (joined reads) h ∙ sym (reads-are-parts Lenient f reads)
 
 -- ---- an intact part is reported after all kinds of noise, and whatever follows it
 
@@ -122,35 +134,36 @@ cuts f reads others e = reads-are-parts f reads ∙ ap (handedOf f) e ∙ sym (r
 pub intact-sound : (r : Reader) (p part q : List ℕ) (h : Handed) {reads : List (List ℕ)} {hs : List Handed}
     → soundReader r ≡ true → Bytes (stateOf r .held)
     → among (startOf (framingOf (r .mode))) part ≡ false
-    → judge (framingOf (r .mode)) (startOf (framingOf (r .mode)) ∷ part) ≡ decided h
+    → judge (r .escapes) (framingOf (r .mode)) (startOf (framingOf (r .mode)) ∷ part) ≡ decided h
     → joined reads ≡ p ++ (startOf (framingOf (r .mode)) ∷ part ++ q) → Calls r reads hs
     → hs
-    ≡ handedOf (framingOf (r .mode)) (streamTo r ++ p ++ (startOf (framingOf (r .mode)) ∷ []))
-    ++ (h ∷ handedOf (framingOf (r .mode)) q)
+    ≡ handedOf (r .escapes) (framingOf (r .mode)) (streamTo r ++ p ++ (startOf (framingOf (r .mode)) ∷ []))
+    ++ (h ∷ handedOf (r .escapes) (framingOf (r .mode)) q)
 intact-sound r p part q h s b clear d e c =
+    let rule = r .escapes in
     let f = framingOf (r .mode) in
     sound-caller r s b c
-    ∙ ap (λ l. handedOf f (streamTo r ++ l)) e
-    ∙ ap (handedOf f) (sym (append-assoc (streamTo r) p (startOf f ∷ part ++ q)))
-    ∙ handed-amid-part f (streamTo r ++ p) part q h clear d
+    ∙ ap (λ l. handedOf rule f (streamTo r ++ l)) e
+    ∙ ap (handedOf rule f) (sym (append-assoc (streamTo r) p (startOf f ∷ part ++ q)))
+    ∙ handed-amid-part rule f (streamTo r ++ p) part q h clear d
 
 -- from a fresh one
-pub intact-calls : (f : Framing) (p part q : List ℕ) (h : Handed) {reads : List (List ℕ)} {hs : List Handed}
-    → among (startOf f) part ≡ false → judge f (startOf f ∷ part) ≡ decided h
+pub intact-calls : (rule : Escapes) (f : Framing) (p part q : List ℕ) (h : Handed) {reads : List (List ℕ)} {hs : List Handed}
+    → among (startOf f) part ≡ false → judge rule f (startOf f ∷ part) ≡ decided h
     → joined reads ≡ p ++ (startOf f ∷ part ++ q)
-    → Calls (freshReader f) reads hs → hs ≡ handedOf f (p ++ (startOf f ∷ [])) ++ (h ∷ handedOf f q)
-intact-calls f p part q h clear d e c = any-caller f c ∙ ap (handedOf f) e ∙ handed-amid-part f p part q h clear d
+    → Calls (freshReader rule f) reads hs → hs ≡ handedOf rule f (p ++ (startOf f ∷ [])) ++ (h ∷ handedOf rule f q)
+intact-calls rule f p part q h clear d e c = any-caller rule f c ∙ ap (handedOf rule f) e ∙ handed-amid-part rule f p part q h clear d
 
 -- and by the caller that hands in what is left, then the next read
-pub intact-part : (f : Framing) (p part q : List ℕ) (h : Handed) (reads : List (List ℕ))
-    → among (startOf f) part ≡ false → judge f (startOf f ∷ part) ≡ decided h
+pub intact-part : (rule : Escapes) (f : Framing) (p part q : List ℕ) (h : Handed) (reads : List (List ℕ))
+    → among (startOf f) part ≡ false → judge rule f (startOf f ∷ part) ≡ decided h
     → joined reads ≡ p ++ (startOf f ∷ part ++ q)
-    → drive (freshReader f) reads ≡ handedOf f (p ++ (startOf f ∷ [])) ++ (h ∷ handedOf f q)
-intact-part f p part q h reads clear d e =
-    reads-are-parts f reads ∙ ap (handedOf f) e ∙ handed-amid-part f p part q h clear d
+    → drive (freshReader rule f) reads ≡ handedOf rule f (p ++ (startOf f ∷ [])) ++ (h ∷ handedOf rule f q)
+intact-part rule f p part q h reads clear d e =
+    reads-are-parts rule f reads ∙ ap (handedOf rule f) e ∙ handed-amid-part rule f p part q h clear d
 
 -- the written frame of a good message among them
-pub intact : (f : Framing) (p m q : List ℕ) (reads : List (List ℕ)) → checkOf m ≡ 0 → Bytes m
+pub intact : (rule : Escapes) (f : Framing) (p m q : List ℕ) (reads : List (List ℕ)) → checkOf m ≡ 0 → Bytes m
     → joined reads ≡ p ++ (frameOf f m ++ q)
-    → drive (freshReader f) reads ≡ handedOf f (p ++ (startOf f ∷ [])) ++ (handing 0 m ∷ handedOf f q)
-intact f p m q reads h b e = reads-are-parts f reads ∙ ap (handedOf f) e ∙ handed-amid f p m q h b
+    → drive (freshReader rule f) reads ≡ handedOf rule f (p ++ (startOf f ∷ [])) ++ (handing 0 m ∷ handedOf rule f q)
+intact rule f p m q reads h b e = reads-are-parts rule f reads ∙ ap (handedOf rule f) e ∙ handed-amid rule f p m q h b

@@ -40,23 +40,23 @@ low-digit-requires c κs =
     (p .0, leb-true _ 15 (rw (c .before .mode3 .given .1) at (p .1)))
 
 returns : tie.Need-returns
-returns c bytes e f = rw (c .before .before .mode .given .1) (c .skipping .ensures bytes e)
+returns c bytes e f = rw (c .before .before .mode .given .1) (c .skipping .ensures _ bytes e)
 
 returns-2 : tie.Need-returns-2
 returns-2 c bytes e f =
     let arm = c .before .before .before .before in
-    rw (arm .mode2 .given .1, c .before .enum-told .given .1) (c .binary .ensures bytes e f)
+    rw (arm .mode2 .given .1, c .before .enum-told .given .1) (c .binary .ensures _ bytes e f)
 
 returns-3 : tie.Need-returns-3
 returns-3 c bytes e f =
     let arm = c .before .before .before .before in
-    rw (arm .mode2 .given .1, c .before .enum-told2 .given .1) (c .character .ensures bytes e f)
+    rw (arm .mode2 .given .1, c .before .enum-told2 .given .1) (c .character .ensures _ bytes e f)
 
 returns-4 : tie.Need-returns-4
 returns-4 c bytes e f = rw (c .before .enum-told3 .given .1) (c .escaped .ensures bytes e f)
 
 returns-5 : tie.Need-returns-5
-returns-5 c bytes e f = rw (c .before .before .mode3 .given .1) (c .low-digit .ensures bytes e f)
+returns-5 c bytes e f = rw (c .before .before .mode3 .given .1) (c .low-digit .ensures _ bytes e f)
 
 pub decide-spec : {M : Type 1} → statement M
 decide-spec =

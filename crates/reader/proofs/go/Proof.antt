@@ -21,22 +21,32 @@ use Rattle.reader.proofs.go.Statement.{statement}
 use Rattle.reader.proofs.go.Tie as tie
 
 abbrev Inv-loop : tie.InvT-loop
-Inv-loop count frame₀ bytes mode₀ held₀ i₀ frame mode held i =
-    SoFar (record { mode = mode₀; held = held₀; bytes = frame₀ }) bytes i
-    (record { mode = mode; held = held; bytes = frame })
+Inv-loop escapes count frame₀ bytes mode₀ held₀ i₀ frame mode held i =
+    SoFar (record { mode = mode₀; held = held₀; bytes = frame₀; escapes = escapes }) bytes i
+    (record { mode = mode; held = held; bytes = frame; escapes = escapes })
 
 abbrev μ-loop : tie.MeasureT-loop
-μ-loop count frame₀ bytes mode₀ held₀ i₀ frame mode held i = length bytes - i
+μ-loop escapes count frame₀ bytes mode₀ held₀ i₀ frame mode held i = length bytes - i
 
 -- the reader that was handed in, and the reader so far
 abbrev given : tie.Start Inv-loop μ-loop → Reader
-given s = record { mode = s .args .from; held = s .args .count; bytes = s .args .frame .now }
+given s = record {
+  mode = s .args .from;
+  held = s .args .count;
+  bytes = s .args .frame .now;
+  escapes = s .args .escapes;
+}
 
 abbrev start : tie.At-loop Inv-loop μ-loop → tie.Start Inv-loop μ-loop
 start c = c .before .before .before .before
 
 abbrev current : tie.At-loop Inv-loop μ-loop → Reader
-current c = record { mode = c .loop .mode; held = c .loop .held; bytes = c .loop .frame }
+current c = record {
+  mode = c .loop .mode;
+  held = c .loop .held;
+  bytes = c .loop .frame;
+  escapes = start c .args .escapes;
+}
 
 held-there : (c : tie.At-loop Inv-loop μ-loop) → c .loop .held ≤ length (c .loop .frame)
 unfolding Whole
@@ -80,7 +90,12 @@ Quiet c =
     let d = kept .before in
     let l = loop-of d in
     SoFar (given (start l)) (start l .args .bytes .now) (l .loop .i + 1)
-    (record { mode = d .decide .result .mode; held = d .decide .result .held; bytes = kept .if1 .frame })
+    (record {
+      mode = d .decide .result .mode;
+      held = d .decide .result .held;
+      bytes = kept .if1 .frame;
+      escapes = start l .args .escapes;
+    })
 
 quiet : (c : tie.After-enum-told Inv-loop μ-loop) → Quiet c
 quiet c = let kept = c .before .before in rw (stored kept) (goes-on (turn (kept .before)) (c .enum-told .given .1))
@@ -95,7 +110,12 @@ past-plain c = c .before .before .before
 abbrev after : tie.After-take Inv-loop μ-loop → Reader
 after c =
     let d = decided c .decide .result in
-    record { mode = d .mode; held = d .held + c .take .result .count; bytes = c .take .last .1 .1 .0 }
+    record {
+      mode = d .mode;
+      held = d .held + c .take .result .count;
+      bytes = c .take .last .1 .1 .0;
+      escapes = start (loop-of (decided c)) .args .escapes;
+    }
 
 went : (c : tie.After-take Inv-loop μ-loop) → let l = loop-of (decided c) in
     SoFar (given (start l)) (start l .args .bytes .now) (l .loop .i + 1 + c .take .result .used) (after c)

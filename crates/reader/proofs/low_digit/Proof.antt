@@ -9,9 +9,9 @@ opens-requires : tie.Need-opens-requires
 opens-requires c κs = search needs
 
 returns : tie.Need-returns
-returns c bytes e f =
+returns c rule bytes e f =
     let a = c .before .before .args in
-    rw (at-start (Digit (a .high)) bytes (a .b) (c .before .if1 .taken)) (c .opens .ensures bytes)
+    rw (at-start rule (Digit (a .high)) bytes (a .b) (c .before .if1 .taken)) (c .opens .ensures bytes)
 
 digit-requires : tie.Need-digit-requires
 digit-requires c κs = search needs
@@ -29,18 +29,18 @@ says-requires : tie.Need-says-requires
 says-requires c κs = search needs
 
 returns-2 : tie.Need-returns-2
-returns-2 c bytes e f =
+returns-2 c rule bytes e f =
     let d = c .before .before in
     let a = d .before .before .args in
-    let none = no-start (Digit (a .high)) bytes (a .b) (d .before .if1 .left) in
+    let none = no-start rule (Digit (a .high)) bytes (a .b) (d .before .if1 .left) in
     rw (none, is-digit (a .b) (d .digit .result) (d .digit .ensures) (c .before .if2 .taken))
     (c .takes .ensures bytes e f)
 
 returns-3 : tie.Need-returns-3
-returns-3 c bytes e f =
+returns-3 c rule bytes e f =
     let d = c .before .before in
     let a = d .before .before .args in
-    let none = no-start (Digit (a .high)) bytes (a .b) (d .before .if1 .left) in
+    let none = no-start rule (Digit (a .high)) bytes (a .b) (d .before .if1 .left) in
     rw (none, is-none (a .b) (d .digit .result) (d .digit .ensures) (c .before .if2 .left)) (c .says .ensures bytes)
 
 pub low-digit-spec : {M : Type 1} → statement M

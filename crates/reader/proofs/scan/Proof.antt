@@ -10,7 +10,12 @@ use Rattle.reader.proofs.scan.Tie as tie
 
 -- the reader that was lent
 abbrev given : tie.Start → Reader
-given s = record { mode = s .args .from; held = s .args .count; bytes = s .args .frame .now }
+given s = record {
+  mode = s .args .from;
+  held = s .args .count;
+  bytes = s .args .frame .now;
+  escapes = s .args .escapes;
+}
 
 -- the call, from past the test of the array
 abbrev call : tie.Else1 → tie.Start

@@ -16,15 +16,15 @@ goes-requires : tie.Need-goes-requires
 goes-requires c κs = search needs
 
 returns : tie.Need-returns
-returns c bytes e =
+returns c rule bytes e =
     let a = c .before .before .before .args in
-    rw (at-start (Skipping (a .framing)) bytes (a .b) (c .before .if1 .taken ∙ c .before .before .start-of .ensures))
+    rw (at-start rule (Skipping (a .framing)) bytes (a .b) (c .before .if1 .taken ∙ c .before .before .start-of .ensures))
     (c .starts .ensures bytes)
 
 returns-2 : tie.Need-returns-2
-returns-2 c bytes e =
+returns-2 c rule bytes e =
     let a = c .before .before .before .args in
-    rw (no-start (Skipping (a .framing)) bytes (a .b)
+    rw (no-start rule (Skipping (a .framing)) bytes (a .b)
     (λ s. c .before .if1 .left (s ∙ sym (c .before .before .start-of .ensures)))) (c .goes .ensures bytes e)
 
 pub skipping-spec : {M : Type 1} → statement M

@@ -35,13 +35,14 @@ returns-4 : tie.Need-returns-4
 returns-4 c =
     let a = c .before .before .args in
     let other = c .before .match .rest in
+    let seven : a .verdict ≡ 7 → ⊥ = λ e. other .0 .1 (inl e) in
     let six : a .verdict ≡ 6 → ⊥ = λ e. other .1 (inl e) in
     let eight : a .verdict ≡ 8 → ⊥ = λ e. other .1 (inr e) in
-    sym (reply-none (a .verdict) (a .type-byte) (omega arith))
+    sym (reply-none (a .verdict) (a .type-byte) (omega arith) (λ e. other .0 .1 (inr e)))
 
 returns-5 : tie.Need-returns-5
 unfolding replyOf
-returns-5 c = rw (c .match .keys2)
+returns-5 c = ⊎-elim (λ e. rw e) (λ e. rw e) (c .match .keys2)
 
 returns-6 : tie.Need-returns-6
 returns-6 c =

@@ -7,6 +7,7 @@ use mathlib.Core.List.{List, flatMap}
 use lib.ListN.{length}
 use borrow.Author.Needs.{needs}
 use Rattle.standard.specs.declared.Framing.the-variants.{Binary}
+use Rattle.standard.specs.declared.Escapes.the-variants.{Lenient}
 use Rattle.standard.specs.Stream.{handedOf}
 use Rattle.standard.specs.Table.{fresh, tableAfter}
 use Rattle.standard.specs.Overview.{groupNumbers}
@@ -27,11 +28,11 @@ captureIn c = start c .args .capture .now
 abbrev tableIn : tie.After-put-verdicts → List ℕ
 tableIn c = c .put-verdicts .last .1 .0
 
-heard : (c : tie.After-put-verdicts) → tableIn c ≡ tableAfter fresh (handedOf Binary (captureIn c))
+heard : (c : tie.After-put-verdicts) → tableIn c ≡ tableAfter fresh (handedOf Lenient Binary (captureIn c))
 heard c =
     let made = c .before .before .before in
     c .put-verdicts .ensures .1
-    ∙ ap (λ (t : List ℕ). tableAfter t (handedOf Binary (captureIn c))) (made .fresh .ensures)
+    ∙ ap (λ (t : List ℕ). tableAfter t (handedOf Lenient Binary (captureIn c))) (made .fresh .ensures)
 
 fit : (c : tie.After-put-verdicts)
     → length (linesOf (captureIn c)) + length (flatMap (groupLine (tableIn c)) groupNumbers) ≤ longestReport
@@ -47,7 +48,7 @@ put-verdicts-requires : tie.Need-put-verdicts-requires
 put-verdicts-requires c κs =
     let s = c .before .before .before .before .before in
     let capture = s .args .capture .now in
-    let table = tableAfter fresh (handedOf Binary capture) in
+    let table = tableAfter fresh (handedOf Lenient Binary capture) in
     (search needs, omega (arith, parts-fit capture (s .pre .0) table refl, s .pre .1))
 
 slice-aggregate-put-groups : tie.Need-slice-aggregate-put-groups

@@ -6,6 +6,7 @@ use mathlib.Core.Path.{_≡_, refl, sym, ap, _∙_}
 use mathlib.Core.List.{List, flatMap}
 use lib.ListN.{length, take}
 use lib.Seq.{take-all}
+use Rattle.standard.specs.declared.Escapes.the-variants.{Lenient}
 use Rattle.standard.specs.Words.{Put}
 use Rattle.standard.specs.Replies.{replyNumber}
 use Rattle.standard.specs.Table.{tableAfter}
@@ -20,7 +21,7 @@ use Rattle.text.proofs.put_verdicts.Tie as tie
 
 -- the reader with its parts
 abbrev readerOf : Mode → ℕ → List ℕ → Reader
-readerOf mode held frame = record { mode = mode; held = held; bytes = frame }
+readerOf mode held frame = record { mode = mode; held = held; bytes = frame; escapes = Lenient }
 
 abbrev Inv-loop : tie.InvT-loop
 Inv-loop out₀ table₀ capture mode₀ held₀ frame₀ used₀ place₀ out table mode held frame used place =
@@ -45,7 +46,7 @@ turned : (c : tie.After-listen Inv-loop μ-loop)
     let answer = c .listen .result in
     Turn (a .capture .now) (a .table .now) (head c .loop .used)
     (answer .said) (replyNumber (answer .reply)) (answer .used)
-    (readerOf (answer .mode) (answer .held) (c .listen .last .1 .1 .0)) (c .listen .last .1 .1 .1 .0)
+    (readerOf (answer .mode) (answer .held) (c .listen .last .1 .1 .1 .0)) (c .listen .last .1 .1 .1 .1 .0)
 turned c =
     let inside = c .before .before .before .before in
     let loop = head c .loop in
