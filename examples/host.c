@@ -503,7 +503,7 @@ static int take_words(struct unit *u, char **words) {
 
 static int start(struct unit *u) {
     catch_signals();
-    u->reader = nx584_fresh(u->framing);
+    u->reader = nx584_fresh(u->framing); /* strict: a damaged escape is answered at once, by a 1Eh */
     u->next_tick = now() + u->tick;
     if (open_commands(u) != 0)
         return -1;

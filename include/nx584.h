@@ -47,7 +47,7 @@ extern "C" {
  * what the numbers below mean. It grows when one of those changes, and only then. A program asks
  * nx584_version() first and stops where it is another number: it was compiled with one version of this
  * file and linked with an archive of another, and no answer would mean what it seems to. */
-#define NX584_VERSION 3
+#define NX584_VERSION 4
 
 /* ---- sizes */
 
@@ -68,6 +68,11 @@ extern "C" {
 #define NX584_BINARY 0
 #define NX584_ASCII 1
 
+/* Rules of escapes: how a binary reader takes a 7Dh and the byte after it, which stands for that byte
+ * XORed with 20h. In ASCII the rule has no effect. In a reader, any other number is as NX584_LENIENT. */
+#define NX584_STRICT 0  /* 5Eh, 5Dh and 7Eh may follow a 7Dh; any other byte is NX584_BAD_ESCAPE */
+#define NX584_LENIENT 1 /* the old rule: any byte may follow */
+
 /* Modes of a reader. */
 #define NX584_MODE_SKIPPING 0 /* up to the next start byte */
 #define NX584_MODE_OPEN 1     /* in a frame */
@@ -84,6 +89,7 @@ extern "C" {
 #define NX584_UNKNOWN 6      /* the number is none of the 41 */
 #define NX584_WRONG_LENGTH 7 /* the length is not that of its number */
 #define NX584_BAD_VALUE 8    /* a checked value is wrong */
+#define NX584_BAD_ESCAPE 15  /* binary, strict: a 7Dh with a byte after it that needs none */
 #define NX584_NONE 255       /* no verdict yet */
 
 /* Refusals, beside 4, 6, 7 and 8. Of a message that is handed to a call, 4 is also a length above 255. */
@@ -119,14 +125,16 @@ extern "C" {
 /* ---- structs */
 
 /* A reader is a value: copy it, keep it, hand it to the next call. held: how many recovered bytes
- * stand in bytes, 258 at most. digit: the pending one. */
+ * stand in bytes, 258 at most. digit: the pending one. escapes: the rule of escapes, which every call
+ * hands back as it was. */
 typedef struct {
     uint8_t framing, mode, digit;
     uint16_t held;
     uint8_t bytes[NX584_LONGEST + 3];
+    uint8_t escapes;
 } nx584_reader;
 
-/* verdict: 0 to 8, 12 or NX584_NONE. type: the whole type byte for 0 and 6 to 8, else 0. length and
+/* verdict: 0 to 8, 12, 15 or NX584_NONE. type: the whole type byte for 0 and 6 to 8, else 0. length and
  * message: 0 and all zero unless verdict 0; zero beyond length. used: how many bytes were read. A good
  * message is one of the 41, of 18 bytes at most; a longer one is read, is unknown (6) or none of its
  * number (7), and is not handed out. */
@@ -200,9 +208,9 @@ typedef struct {
 
 /* What the archive was compiled for; a machine with other sizes stops here. */
 typedef char nx584_has_size_t[sizeof(size_t) == 8 ? 1 : -1];
-typedef char nx584_has_reader[sizeof(nx584_reader) == 264 ? 1 : -1];
-typedef char nx584_has_reading[sizeof(nx584_reading) == 536 ? 1 : -1];
-typedef char nx584_has_hearing[sizeof(nx584_hearing) == 536 ? 1 : -1];
+typedef char nx584_has_reader[sizeof(nx584_reader) == 266 ? 1 : -1];
+typedef char nx584_has_reading[sizeof(nx584_reading) == 544 ? 1 : -1];
+typedef char nx584_has_hearing[sizeof(nx584_hearing) == 544 ? 1 : -1];
 typedef char nx584_has_written[sizeof(nx584_written) == 16 ? 1 : -1];
 typedef char nx584_has_group[sizeof(nx584_group) == 16 ? 1 : -1];
 typedef char nx584_has_overview[sizeof(nx584_overview) == 280 ? 1 : -1];
@@ -217,8 +225,11 @@ typedef char nx584_has_sending[sizeof(nx584_sending) == 16 ? 1 : -1];
 /* The NX584_VERSION that the archive was made with. */
 uint32_t nx584_version(void);
 
-/* A reader that has read nothing. */
+/* A reader that has read nothing, with the strict rule of escapes. */
 nx584_reader nx584_fresh(uint8_t framing);
+
+/* The same with the old rule, for a line or a capture that escapes more than it needs to. */
+nx584_reader nx584_fresh_lenient(uint8_t framing);
 
 /* One byte: as nx584_read of that byte alone. */
 nx584_reading nx584_step(nx584_reader reader, uint8_t byte);

@@ -9,6 +9,7 @@
 
 uint64_t nx584_cross_version(void);
 void nx584_cross_fresh(nx584_reader *answer, uint64_t framing);
+void nx584_cross_fresh_lenient(nx584_reader *answer, uint64_t framing);
 void nx584_cross_step(nx584_reading *answer, const nx584_reader *reader, uint64_t byte);
 void nx584_cross_read(nx584_reading *answer, const nx584_reader *reader, const uint8_t *bytes, uint64_t bytes_len);
 void nx584_cross_write(nx584_written *answer, const uint8_t *message, uint64_t message_len, uint64_t framing, uint8_t *out, uint64_t out_len,

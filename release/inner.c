@@ -11,6 +11,11 @@ void nx584_cross_fresh(nx584_reader *answer, uint64_t framing)
     *answer = nx584_fresh((uint8_t)framing);
 }
 
+void nx584_cross_fresh_lenient(nx584_reader *answer, uint64_t framing)
+{
+    *answer = nx584_fresh_lenient((uint8_t)framing);
+}
+
 void nx584_cross_step(nx584_reading *answer, const nx584_reader *reader, uint64_t byte)
 {
     *answer = nx584_step(*reader, (uint8_t)byte);

@@ -13,6 +13,13 @@ nx584_reader nx584_fresh(uint8_t framing)
     return answer;
 }
 
+nx584_reader nx584_fresh_lenient(uint8_t framing)
+{
+    nx584_reader answer;
+    nx584_cross_fresh_lenient(&answer, framing);
+    return answer;
+}
+
 nx584_reading nx584_step(nx584_reader reader, uint8_t byte)
 {
     nx584_reading answer;

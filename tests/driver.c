@@ -3,13 +3,14 @@
  * under an emulator too.
  *
  * A call is one byte, the function below with the two flags, and then the operands in the order of the
- * header. Numbers are little-endian: a size_t has 8 bytes, a reader 263, and a buffer is its length in 4
+ * header. Numbers are little-endian: a size_t has 8 bytes, a reader 264, and a buffer is its length in 4
  * bytes and then its bytes; slots are a buffer of 16 bytes for each. An answer is the function's result,
  * field by field in the header's order.
  * After a buffer that is lent for writing, the answer has its bytes, and before them one byte: 1 if no
  * byte beside the buffer was touched.
  *
  *   fresh  framing                  reader                 keeps the reader
+ *   fresh_lenient  framing          reader                 keeps the reader
  *   step   [reader] byte            reading
  *   read   [reader] bytes           reading
  *   write  message framing out place   written, beside, out
@@ -35,7 +36,7 @@
 #include "nx584.h"
 
 enum { FRESH = 1, STEP, READ, WRITE, REPLY, APPLY, VIEW, HEAR, KEEP, SHOW, VERSION, ZONE, PARTITION, SYSTEM };
-enum { LEND = SYSTEM + 1, TAKE, TICK, TOLD };
+enum { LEND = SYSTEM + 1, TAKE, TICK, TOLD, FRESH_LENIENT };
 enum { FUNCTION = 0x1F };
 enum { NULLS = 0x40, KEPT = 0x80 };
 enum { LONGEST_BUFFER = 1 << 20, BESIDE = 16, MARK = 0xA5 };
@@ -203,6 +204,7 @@ static nx584_reader take_reader(void)
     r.digit = (uint8_t)take_number(1);
     r.held = (uint16_t)take_number(2);
     take(r.bytes, sizeof r.bytes);
+    r.escapes = (uint8_t)take_number(1);
     return r;
 }
 
@@ -213,6 +215,7 @@ static void give_reader(const nx584_reader *r)
     give_number(r->digit, 1);
     give_number(r->held, 2);
     give(r->bytes, sizeof r->bytes);
+    give_number(r->escapes, 1);
     if (flags & KEPT)
         kept_reader = *r;
 }
@@ -293,6 +296,13 @@ static void give_group(const nx584_group *g)
 static void call_fresh(void)
 {
     nx584_reader r = nx584_fresh((uint8_t)take_number(1));
+    flags |= KEPT;
+    give_reader(&r);
+}
+
+static void call_fresh_lenient(void)
+{
+    nx584_reader r = nx584_fresh_lenient((uint8_t)take_number(1));
     flags |= KEPT;
     give_reader(&r);
 }
@@ -447,6 +457,7 @@ int main(void)
         case TAKE: call_take(); break;
         case TICK: call_tick(); break;
         case TOLD: call_told(); break;
+        case FRESH_LENIENT: call_fresh_lenient(); break;
         default: leave(2);
         }
     }

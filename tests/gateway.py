@@ -4,7 +4,8 @@
 usage: tests/gateway.py SEED -- HOST [WORD...]
 
 The gateway answers at once, late, after some sendings, with 1Eh, or not at all, talks of other things meanwhile, and cuts its
-bytes anywhere. Every command ends in the way that it chose. One of newer firmware sends long messages until they are rejected.
+bytes anywhere. Every command ends in the way that it chose. One of newer firmware sends long messages until they are rejected,
+one on a noisy cable sends a frame again.
 Ends 'N passed, M failed'."""
 import os
 import re
@@ -337,6 +338,22 @@ class Commands(Trials):
         self.note(f"{framing}: the table and the replies are those of the {len(said)} bytes, uncut", status == 0, table == uncut,
                   heard == replies)
 
+    def noisy_escape(self, home):
+        """Noise makes a 5Fh of the 5Eh in a zone status: it is refused at that byte, and taken when it is sent again."""
+        data = frame("binary", bytes((0x84, 9, 0x7E, 0x10, 0x58, 0, 1, 0)))
+        at = data.index(b"\x7d\x5e") + 1
+        negative, acknowledge = frame("binary", b"\x1e"), frame("binary", b"\x1d")
+        line = Line(os.path.join(home, "line"))
+        host = self.started(home, line, [])
+        refused = self.is_answered(line, data[:at] + b"\x5f", b"", negative, False)
+        line.send(data[at + 1:])
+        taken = self.is_answered(line, data, negative, acknowledge, False)
+        ended = host.end()
+        self.note("a 5Fh that noise made of a 5Eh: 1Eh at that byte, no more for that frame, and 1Dh when it is sent again", self.hearing,
+                  refused, taken, ended == 0, host.table()[72:80] == bytes((3, 0x7E, 0x10, 0x58, 0, 1, 0, 1)))
+        host.leave()
+        line.close()
+
     def half_seconds(self, home):
         path = os.path.join(home, "commands")
         line = Line(os.path.join(home, "line"))
@@ -359,6 +376,7 @@ class Commands(Trials):
         for framing in FRAMINGS:
             self.as_chosen(home, framing)
             self.until_rejected(home, framing)
+        self.noisy_escape(home)
         self.on_a_busy_line(home)
         self.refused(home)
         self.on_a_descriptor(home)

@@ -31,10 +31,11 @@ static uint8_t chance(void)
 static void call_nothing(void) {}
 static void call_version(void) { sink = nx584_version(); }
 static void call_fresh(void) { reader = nx584_fresh(framing); }
+static void call_fresh_lenient(void) { reader = nx584_fresh_lenient(framing); }
 static void call_step(void) { sink = nx584_step(reader, bytes[0]).used; }
 static void call_read(void) { sink = nx584_read(reader, bytes, count).used; }
 static void call_write(void) { sink = nx584_write(message, message_count, framing, out, sizeof out, 0).length; }
-static void call_reply(void) { sink = nx584_reply(bytes[0] % 10, bytes[1]); }
+static void call_reply(void) { sink = nx584_reply(bytes[0] % 16, bytes[1]); }
 static void call_apply(void) { sink = nx584_apply(table, sizeof table, message, message_count); }
 static void call_view(void) { sink = nx584_view(table, sizeof table).site.heard; }
 static void call_zone(void) { sink = nx584_zone(table, sizeof table, bytes[0]).mark; }
@@ -48,13 +49,14 @@ static void call_told(void) { sink = nx584_told(slots, NX584_SLOTS, message, mes
 static const struct {
     const char *name;
     void (*call)(void);
-} calls[] = {{"nothing", call_nothing}, {"nx584_version", call_version}, {"nx584_fresh", call_fresh}, {"nx584_step", call_step},
-             {"nx584_read", call_read}, {"nx584_write", call_write}, {"nx584_reply", call_reply}, {"nx584_apply", call_apply},
-             {"nx584_view", call_view}, {"nx584_zone", call_zone}, {"nx584_partition", call_partition}, {"nx584_system", call_system},
-             {"nx584_hear", call_hear}, {"nx584_take", call_take}, {"nx584_tick", call_tick}, {"nx584_told", call_told}};
+} calls[] = {{"nothing", call_nothing}, {"nx584_version", call_version}, {"nx584_fresh", call_fresh}, {"nx584_fresh_lenient", call_fresh_lenient},
+             {"nx584_step", call_step}, {"nx584_read", call_read}, {"nx584_write", call_write}, {"nx584_reply", call_reply},
+             {"nx584_apply", call_apply}, {"nx584_view", call_view}, {"nx584_zone", call_zone}, {"nx584_partition", call_partition},
+             {"nx584_system", call_system}, {"nx584_hear", call_hear}, {"nx584_take", call_take}, {"nx584_tick", call_tick},
+             {"nx584_told", call_told}};
 
-/* ---- inputs: good messages' frames and long ones, read by a fresh reader or by one in the midst of them, and any bytes; slots with any number of commands
- * that wait */
+/* ---- inputs: good messages' frames and long ones, and any bytes, an escape that was not needed at times among them; read by a fresh reader of either rule
+ * or by one in the midst of them; slots with any number of commands that wait */
 
 static void make_slots(void)
 {
@@ -125,11 +127,13 @@ static void make_input(void)
     if (chance() % 4 == 0)
         message_count = chance() % 2 ? sizeof message - chance() % 2 : chance();
     framing = chance() & 1;
-    reader = nx584_fresh(framing);
+    reader = chance() % 2 ? nx584_fresh(framing) : nx584_fresh_lenient(framing);
     make_slots();
     make_bytes();
     if (chance() % 4)
         make_frame((uint8_t)message_count);
+    if (chance() % 8 == 0 && count > 1)
+        bytes[1 + chance() % (count - 1)] = 0x7D;
     if (chance() % 2 && count > 0)
         read_some();
 }

@@ -7,6 +7,7 @@ use crate::commands::{from_memory, take, tick, to_memory, told, Sending, Slot, L
 use crate::commands::{SLOTS, SLOT_BYTES};
 use crate::messages::LONGEST;
 use crate::odd::Wrong;
+use crate::parts::{Escapes, Lenient, Strict};
 use crate::reader::{read, Reader, Reading};
 use crate::table::{self, apply, hear, view, Group, Overview};
 use crate::writer::{reply, write, Written};
@@ -22,7 +23,7 @@ pub struct Lent {
 /// eight slots.
 #[derive(Clone, Debug)]
 pub enum Call {
-    Fresh { framing: u8 },
+    Fresh { framing: u8, escapes: Escapes },
     Step { reader: Option<Reader>, byte: u8 },
     Read { reader: Option<Reader>, bytes: Vec<u8> },
     Write { message: Vec<u8>, framing: u8, out: Vec<u8>, place: u64 },
@@ -43,7 +44,7 @@ pub enum Call {
 }
 
 /// The version of nx584.h that is meant here.
-const VERSION: u32 = 3;
+const VERSION: u32 = 4;
 /// The bytes of nx584_zone_record, nx584_partition_record and nx584_system_record.
 const ZONE_RECORD: usize = 9;
 const PARTITION_RECORD: usize = 10;
@@ -94,7 +95,7 @@ pub struct Second {
 
 impl Second {
     pub fn new() -> Second {
-        Second { reader: Reader::fresh(0), table: Vec::new(), slots: Vec::new() }
+        Second { reader: Reader::fresh(0, Strict), table: Vec::new(), slots: Vec::new() }
     }
 
     fn sending(&mut self, own: &Option<Lent>, call: impl FnOnce(&mut Vec<Slot>) -> Sending) -> Answer {
@@ -126,8 +127,8 @@ impl Second {
 impl Library for Second {
     fn call(&mut self, call: &Call) -> Answer {
         match call {
-            Call::Fresh { framing } => {
-                self.reader = Reader::fresh(*framing);
+            Call::Fresh { framing, escapes } => {
+                self.reader = Reader::fresh(*framing, *escapes);
                 Answer::Reader(self.reader.clone())
             }
             Call::Step { reader, byte } => self.reading(reader, &[*byte]),
@@ -234,6 +235,7 @@ fn put_reader(line: &mut Vec<u8>, reader: &Reader) {
     line.extend([reader.framing, reader.mode, reader.digit]);
     line.extend(reader.held.to_le_bytes());
     line.extend(reader.bytes);
+    line.push(reader.escapes);
 }
 
 impl Call {
@@ -256,7 +258,8 @@ impl Call {
 
     fn function(&self) -> u8 {
         match self {
-            Call::Fresh { .. } => 1,
+            Call::Fresh { escapes: Strict, .. } => 1,
+            Call::Fresh { escapes: Lenient, .. } => 19,
             Call::Step { .. } => 2,
             Call::Read { .. } => 3,
             Call::Write { .. } => 4,
@@ -282,7 +285,7 @@ impl Call {
         let kept = if self.is_kept() { KEPT } else { 0 };
         line.push(self.function() | kept | if nulls { NULLS } else { 0 });
         match self {
-            Call::Fresh { framing } => line.push(*framing),
+            Call::Fresh { framing, .. } => line.push(*framing),
             Call::Step { reader, byte } => {
                 reader.iter().for_each(|r| put_reader(line, r));
                 line.push(*byte);
@@ -406,7 +409,8 @@ impl<R: Read> Taken<'_, R> {
         let held = self.number(2)? as u16;
         let mut bytes = [0; LONGEST + 3];
         self.from.read_exact(&mut bytes)?;
-        Ok(Reader { framing, mode, digit, held, bytes })
+        let escapes = self.byte()?;
+        Ok(Reader { framing, mode, digit, held, bytes, escapes })
     }
 
     fn reading(&mut self, with_reply: bool) -> io::Result<(Reading, u8)> {
@@ -456,8 +460,9 @@ impl fmt::Display for Hex<'_> {
 
 impl fmt::Display for Reader {
     fn fmt(&self, f: &mut fmt::Formatter) -> fmt::Result {
-        let Reader { framing, mode, digit, held, bytes } = self;
-        write!(f, "framing {framing} mode {mode} digit {digit} held {held} bytes {}", Hex(bytes))
+        let Reader { framing, mode, digit, held, bytes, escapes } = self;
+        let bytes = Hex(bytes);
+        write!(f, "framing {framing} mode {mode} digit {digit} held {held} bytes {bytes} escapes {escapes}")
     }
 }
 
@@ -484,7 +489,8 @@ impl fmt::Display for Call {
     fn fmt(&self, f: &mut fmt::Formatter) -> fmt::Result {
         let table_or_kept = |table: &Option<Vec<u8>>| own_or_kept(&table.as_deref().map(Hex));
         match self {
-            Call::Fresh { framing } => write!(f, "fresh framing {framing}"),
+            Call::Fresh { framing, escapes: Strict } => write!(f, "fresh framing {framing}"),
+            Call::Fresh { framing, escapes: Lenient } => write!(f, "fresh_lenient framing {framing}"),
             Call::Step { reader, byte } => {
                 write!(f, "step byte {byte:02X} reader: {}", own_or_kept(reader))
             }

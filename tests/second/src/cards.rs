@@ -1,7 +1,9 @@
-//! Document 01's bench cards, the expected values typed from its page, and some for document 02, No. 2. They
-//! are asked of the second program itself, and of the library where there is one.
+//! Document 01's bench cards, the expected values typed from its page, and some for document 02, Nos. 2 and 5.
+//! They are asked of the second program itself, and of the library where there is one. All that are read hold
+//! under both rules of escapes, but for those of No. 5.
 
 use crate::calls::{Answer, Call, Library};
+use crate::parts::{Escapes, Lenient, Strict, RULES};
 use crate::reader::{Reader, Reading, NONE};
 use crate::report::report;
 use crate::table::{Group, TABLE_BYTES};
@@ -34,14 +36,27 @@ const LONG_03_DAMAGED: &[u8] = &[
     0x0F, 0x10, 0x11, 0x12, 0xC1, 0x30,
 ];
 
+/// Card 4 after noise has made 5F of 5E.
+const CARD_4_NOISY: &[u8] =
+    &[0x7E, 0x08, 0x84, 0x09, 0x7D, 0x5F, 0x10, 0x58, 0x00, 0x01, 0x00, 0x7D, 0x5D, 0x56];
+/// Card 1 with each of its bytes behind the start escaped, though none need be.
+const CARD_1_ESCAPED: [&[u8]; 4] = [
+    &[0x7E, 0x7D, 0x21, 0x1D, 0x1E, 0x1F],
+    &[0x7E, 0x01, 0x7D, 0x3D, 0x1E, 0x1F],
+    &[0x7E, 0x01, 0x1D, 0x7D, 0x3E, 0x1F],
+    &[0x7E, 0x01, 0x1D, 0x1E, 0x7D, 0x3F],
+];
+/// "7D 7D gives 5Dh": a log event request.
+const LOG_EVENT_5D: &[u8] = &[0x7E, 0x02, 0x2A, 0x7D, 0x7D, 0x89, 0xB7];
+
 /// What a host hears: the verdict, its type byte, the message and the reply; then how many bytes it used.
 type Heard = (u8, u8, Vec<u8>, u8, u64);
 
-/// Everything that a fresh host hears in these bytes, unused ones handed in again; the table is kept.
+/// Everything that a fresh host of a rule hears in these bytes, unused ones handed in again; the table is kept.
 /// A last entry with no verdict says that a read without one left bytes unused.
-fn heard(library: &mut impl Library, framing: u8, bytes: &[u8]) -> Vec<Heard> {
+fn heard_by(library: &mut impl Library, escapes: Escapes, framing: u8, bytes: &[u8]) -> Vec<Heard> {
     let mut heard = Vec::new();
-    library.call(&Call::Fresh { framing });
+    library.call(&Call::Fresh { framing, escapes });
     library.call(&Call::Keep { table: vec![0; TABLE_BYTES] });
     let mut rest = bytes;
     while heard.len() <= bytes.len() {
@@ -56,6 +71,11 @@ fn heard(library: &mut impl Library, framing: u8, bytes: &[u8]) -> Vec<Heard> {
         }
     }
     heard
+}
+
+/// Whether a fresh host hears this, by either rule.
+fn hears(library: &mut impl Library, framing: u8, bytes: &[u8], wanted: &[Heard]) -> bool {
+    RULES.iter().all(|&escapes| heard_by(library, escapes, framing, bytes) == wanted)
 }
 
 fn kept_table(library: &mut impl Library) -> Vec<u8> {
@@ -73,12 +93,17 @@ fn kept_groups(library: &mut impl Library) -> Vec<Group> {
 }
 
 /// The verdict and used bytes of one read from a fresh reader.
-fn read_fresh(library: &mut impl Library, framing: u8, bytes: &[u8]) -> (u8, u64) {
-    let reader = Some(Reader::fresh(framing));
+fn read_by(library: &mut impl Library, escapes: Escapes, framing: u8, bytes: &[u8]) -> (u8, u64) {
+    let reader = Some(Reader::fresh(framing, escapes));
     match library.call(&Call::Read { reader, bytes: bytes.to_vec() }) {
         Answer::Reading(Reading { verdict, used, .. }) => (verdict, used),
         _ => (NONE, 0),
     }
+}
+
+/// Whether one read from a fresh reader has this verdict and uses so many bytes, by either rule.
+fn reads(library: &mut impl Library, framing: u8, bytes: &[u8], wanted: (u8, u64)) -> bool {
+    RULES.iter().all(|&escapes| read_by(library, escapes, framing, bytes) == wanted)
 }
 
 fn written(
@@ -99,17 +124,17 @@ fn good(message: &[u8], reply: u8, used: usize) -> Heard {
     (0, message[0], message.to_vec(), reply, used as u64)
 }
 
-fn card_4_in_the_table(library: &mut impl Library) -> bool {
+fn card_4_in_the_table(library: &mut impl Library, escapes: Escapes) -> bool {
     let message = [0x84, 0x09, 0x7E, 0x10, 0x58, 0x00, 0x01, 0x00];
-    let heard = heard(library, 0, CARD_4);
+    let heard = heard_by(library, escapes, 0, CARD_4);
     let mut table = vec![0; TABLE_BYTES];
     table[72..80].copy_from_slice(&[0b11, 0x7E, 0x10, 0x58, 0x00, 0x01, 0x00, 0x01]);
     heard == [good(&message, 0x1D, 14)] && kept_table(library) == table
 }
 
-fn card_5_in_the_table(library: &mut impl Library) -> bool {
+fn card_5_in_the_table(library: &mut impl Library, escapes: Escapes) -> bool {
     let message = [0x05, 0x00, 0x01, 0, 0, 0, 0, 0, 0, 0];
-    let heard = heard(library, 0, CARD_5);
+    let heard = heard_by(library, escapes, 0, CARD_5);
     let mut table = vec![0; TABLE_BYTES];
     (0..16).for_each(|zone| table[8 * zone] = 1);
     table[7] = 1;
@@ -124,10 +149,10 @@ fn card_5_in_the_table(library: &mut impl Library) -> bool {
 }
 
 /// Card 1 cut after each byte in turn: in two reads, and byte by byte.
-fn card_10(library: &mut impl Library) -> bool {
+fn card_10(library: &mut impl Library, escapes: Escapes) -> bool {
     let mut ok = true;
     for cut in 0..=CARD_1.len() {
-        library.call(&Call::Fresh { framing: 0 });
+        library.call(&Call::Fresh { framing: 0, escapes });
         let mut verdicts = Vec::new();
         for bytes in [&CARD_1[..cut], &CARD_1[cut..]] {
             if let Answer::Reading(r) = library.call(&Call::Read { reader: None, bytes: bytes.to_vec() }) {
@@ -138,7 +163,7 @@ fn card_10(library: &mut impl Library) -> bool {
         }
         ok &= verdicts == [(0, 0x1D, 1, 0x1D)];
     }
-    library.call(&Call::Fresh { framing: 0 });
+    library.call(&Call::Fresh { framing: 0, escapes });
     let steps: Vec<u8> = CARD_1
         .iter()
         .filter_map(|&byte| match library.call(&Call::Step { reader: None, byte }) {
@@ -161,8 +186,8 @@ fn card_12(library: &mut impl Library) -> bool {
     let frame_241 = [0x7E, 0x02, 0x25, 0xF1, 0x19, 0x42];
     written(library, &[0x25, 240], 0, 6, 0) == (0, 6, frame_240.to_vec())
         && written(library, &[0x25, 241], 0, 6, 0).0 == 8
-        && heard(library, 0, &frame_240) == [good(&[0x25, 240], 0x1F, 6)]
-        && heard(library, 0, &frame_241) == [(8, 0x25, vec![], 0x1F, 6)]
+        && hears(library, 0, &frame_240, &[good(&[0x25, 240], 0x1F, 6)])
+        && hears(library, 0, &frame_241, &[(8, 0x25, vec![], 0x1F, 6)])
 }
 
 /// Bytes that count up.
@@ -196,9 +221,9 @@ fn is_rejected(library: &mut impl Library, frames: &[Vec<u8>; 2]) -> bool {
     (0..2).all(|framing| {
         let frame = &frames[usize::from(framing)];
         let used = frame.len() as u64;
-        heard(library, framing, frame) == [(6, 0x22, vec![], 0x1F, used)]
+        hears(library, framing, frame, &[(6, 0x22, vec![], 0x1F, used)])
             && kept_table(library) == vec![0; TABLE_BYTES]
-            && read_fresh(library, framing, &frame[..frame.len() - 1]) == (NONE, used - 1)
+            && reads(library, framing, &frame[..frame.len() - 1], (NONE, used - 1))
     })
 }
 
@@ -220,29 +245,57 @@ fn long_writes(library: &mut impl Library) -> bool {
     })
 }
 
+/// Each of these frames of card 1: strict, 15 at the byte after 7Dh and silence behind it; by the old rule, good.
+fn card_1_escaped(library: &mut impl Library) -> bool {
+    (0..4).all(|k| {
+        let (frame, at) = (CARD_1_ESCAPED[k], k as u64 + 3);
+        heard_by(library, Strict, 0, frame) == [(15, 0, vec![], 0x1E, at)]
+            && heard_by(library, Lenient, 0, frame) == [good(&[0x1D], 0, 6)]
+    })
+}
+
+/// Strict, after 15 the next start is looked for: the frame is skipped, the one behind it read.
+fn card_4_noisy(library: &mut impl Library) -> bool {
+    let then_card_1 = [CARD_4_NOISY, CARD_1].concat();
+    let fifteen = (15, 0, vec![], 0x1E, 6);
+    heard_by(library, Strict, 0, CARD_4_NOISY) == [fifteen.clone()]
+        && kept_table(library) == vec![0; TABLE_BYTES]
+        && heard_by(library, Strict, 0, &then_card_1) == [fifteen, good(&[0x1D], 0, 13)]
+}
+
 /// Each card's name, and whether the library answers as the card says.
 pub fn cards(library: &mut impl Library) -> Vec<(&'static str, bool)> {
     let card_1 = good(&[0x1D], 0, 5);
+    let request_5d = good(&[0x2A, 0x5D], 0x1F, 7);
     vec![
-        ("card 1: 0, no reply", heard(library, 0, CARD_1) == [card_1.clone()]),
+        ("card 1: 0, no reply", hears(library, 0, CARD_1, &[card_1])),
         ("card 1 written", written(library, &[0x1D], 0, 5, 0) == (0, 5, CARD_1.to_vec())),
-        ("card 2: the same in ASCII", heard(library, 1, CARD_2) == [good(&[0x1D], 0, 10)]),
+        ("card 2: the same in ASCII", hears(library, 1, CARD_2, &[good(&[0x1D], 0, 10)])),
         ("card 2 written", written(library, &[0x1D], 1, 10, 0) == (0, 10, CARD_2.to_vec())),
-        ("card 3: 7, reply 1E", heard(library, 0, CARD_3) == [(7, 0x84, vec![], 0x1E, 12)]),
-        ("card 4: 0, reply 1D, zone 10 short flags 1", card_4_in_the_table(library)),
+        ("card 3: 7, reply 1E", hears(library, 0, CARD_3, &[(7, 0x84, vec![], 0x1E, 12)])),
+        (
+            "card 4: 0, reply 1D, zone 10 short flags 1",
+            RULES.iter().all(|&escapes| card_4_in_the_table(library, escapes)),
+        ),
         (
             "card 4 written",
             written(library, &[0x84, 0x09, 0x7E, 0x10, 0x58, 0x00, 0x01, 0x00], 0, 14, 0)
                 == (0, 14, CARD_4.to_vec()),
         ),
-        ("card 5: 0, zones 1-16 heard, zone 1 faulted", card_5_in_the_table(library)),
-        ("card 6: 5, reply 1E", heard(library, 0, CARD_6) == [(5, 0, vec![], 0x1E, 5)]),
-        ("card 7: 1, then 0", heard(library, 0, CARD_7) == [(1, 0, vec![], 0x1E, 2), good(&[0x1D], 0, 4)]),
-        ("card 8: 1, then 0", heard(library, 0, CARD_8) == [(1, 0, vec![], 0x1E, 4), good(&[0x1D], 0, 4)]),
-        ("card 9: 7E 00 is 4", read_fresh(library, 0, &[0x7E, 0x00]) == (4, 2)),
-        ("card 9: 7E 12 is nothing yet", read_fresh(library, 0, &[0x7E, 0x12]) == (NONE, 2)),
-        ("card 9: 7E 13 is nothing yet", read_fresh(library, 0, &[0x7E, 0x13]) == (NONE, 2)),
-        ("card 10: card 1 cut after each byte in turn", card_10(library)),
+        (
+            "card 5: 0, zones 1-16 heard, zone 1 faulted",
+            RULES.iter().all(|&escapes| card_5_in_the_table(library, escapes)),
+        ),
+        ("card 6: 5, reply 1E", hears(library, 0, CARD_6, &[(5, 0, vec![], 0x1E, 5)])),
+        ("card 7: 1, then 0", hears(library, 0, CARD_7, &[(1, 0, vec![], 0x1E, 2), good(&[0x1D], 0, 4)])),
+        ("card 8: 1, then 0", hears(library, 0, CARD_8, &[(1, 0, vec![], 0x1E, 4), good(&[0x1D], 0, 4)])),
+        ("card 9: 7E 00 is 4", reads(library, 0, &[0x7E, 0x00], (4, 2))),
+        ("card 9: 7E 12 is nothing yet", reads(library, 0, &[0x7E, 0x12], (NONE, 2))),
+        ("card 9: 7E 13 is nothing yet", reads(library, 0, &[0x7E, 0x13], (NONE, 2))),
+        (
+            "card 10: card 1 cut after each byte in turn",
+            RULES.iter().all(|&escapes| card_10(library, escapes)),
+        ),
         ("card 11: card 1 at place 3 of 8 and of 7 bytes", card_11(library)),
         ("card 12: offset 240 in 25h passes, 241 gives 8", card_12(library)),
         (
@@ -251,9 +304,27 @@ pub fn cards(library: &mut impl Library) -> Vec<(&'static str, bool)> {
         ),
         ("long: 126 bytes of 22h, 6, reply 1F", is_rejected(library, &long_126())),
         ("long: 255 bytes of 22h, 6, reply 1F", is_rejected(library, &long_255())),
-        ("long: 19 bytes of 03h, 7, reply 1E", heard(library, 0, LONG_03) == [(7, 0x03, vec![], 0x1E, 23)]),
-        ("long: another sum, 5, reply 1E", heard(library, 0, LONG_03_DAMAGED) == [(5, 0, vec![], 0x1E, 23)]),
+        ("long: 19 bytes of 03h, 7, reply 1E", hears(library, 0, LONG_03, &[(7, 0x03, vec![], 0x1E, 23)])),
+        ("long: another sum, 5, reply 1E", hears(library, 0, LONG_03_DAMAGED, &[(5, 0, vec![], 0x1E, 23)])),
         ("long: the writer refuses 4, 6 and 7", long_writes(library)),
+        ("escapes: card 4 with 5F for 5E, strict, 15 at byte 6, reply 1E", card_4_noisy(library)),
+        (
+            "escapes: the same by the old rule, 5, reply 1E",
+            heard_by(library, Lenient, 0, CARD_4_NOISY) == [(5, 0, vec![], 0x1E, 14)],
+        ),
+        ("escapes: 7E 7D 20, strict, 15", read_by(library, Strict, 0, &[0x7E, 0x7D, 0x20]) == (15, 3)),
+        ("escapes: the same by the old rule, 4", read_by(library, Lenient, 0, &[0x7E, 0x7D, 0x20]) == (4, 3)),
+        ("escapes: 7E 7D is nothing yet", reads(library, 0, &[0x7E, 0x7D], (NONE, 2))),
+        ("escapes: 7E 7D 7E is 1", reads(library, 0, &[0x7E, 0x7D, 0x7E, 0x01], (1, 3))),
+        ("escapes: card 1 with each byte escaped", card_1_escaped(library)),
+        (
+            "escapes: 7D 7D, strict, 15",
+            heard_by(library, Strict, 0, LOG_EVENT_5D) == [(15, 0, vec![], 0x1E, 5)],
+        ),
+        (
+            "escapes: the same by the old rule, 5Dh",
+            heard_by(library, Lenient, 0, LOG_EVENT_5D) == [request_5d],
+        ),
     ]
 }
 

@@ -5,9 +5,9 @@ use crate::driver::Calls;
 use crate::lines;
 use crate::made::{self, Chance};
 use crate::messages::{length_of, LENGTHS, LONGEST};
-use crate::parts::{coded, frame, framed, start, summed, Ascii, Binary, Framing};
+use crate::parts::{coded, frame, framed, start, summed, Ascii, Binary, Framing, RULES};
 use crate::reader::{Reader, NONE};
-use crate::trials::{all_ways, fresh_table, number, show_table, FRAMINGS};
+use crate::trials::{all_ways, fresh_table, number, show_table, FRAMINGS, FRAMINGS_AND_RULES};
 
 /// What a made frame is: well-formed, or with one thing wrong.
 #[derive(Clone, Copy)]
@@ -17,6 +17,8 @@ enum Kind {
     WrongSum,
     /// The length byte is escaped where it need not be.
     EscapedLength,
+    /// A byte behind the length is.
+    EscapedByte,
     NoDigit,
     NoStop,
     CutShort,
@@ -24,7 +26,14 @@ enum Kind {
 
 fn kinds(framing: Framing) -> &'static [Kind] {
     match framing {
-        Binary => &[Kind::Unknown, Kind::Known, Kind::WrongSum, Kind::EscapedLength, Kind::CutShort],
+        Binary => &[
+            Kind::Unknown,
+            Kind::Known,
+            Kind::WrongSum,
+            Kind::EscapedLength,
+            Kind::EscapedByte,
+            Kind::CutShort,
+        ],
         Ascii => &[Kind::Unknown, Kind::Known, Kind::WrongSum, Kind::NoDigit, Kind::NoStop, Kind::CutShort],
     }
 }
@@ -79,6 +88,18 @@ fn with_escaped_length(line: &[u8]) -> Vec<u8> {
     [&[line[0], 0x7D, line[1] ^ 0x20], &line[2..]].concat()
 }
 
+/// In binary, with any byte behind the length so escaped.
+fn with_escaped_byte(chance: &mut Chance, message: &[u8]) -> Vec<u8> {
+    let bytes = summed(message);
+    loop {
+        let place = 1 + chance.below(bytes.len() - 1);
+        if !matches!(bytes[place], 0x5E | 0x7D | 0x7E) {
+            let (before, after) = (coded(Binary, &bytes[..place]), coded(Binary, &bytes[place + 1..]));
+            return [&[start(Binary)], &before[..], &[0x7D, bytes[place] ^ 0x20], &after].concat();
+        }
+    }
+}
+
 /// In ASCII: with a character behind the length's two that is no digit and no start.
 fn with_no_digit(chance: &mut Chance, line: &mut [u8]) {
     let place = 3 + chance.below(line.len() - 4);
@@ -97,6 +118,7 @@ fn line(chance: &mut Chance, framing: Framing, length: usize, kind: Kind) -> Vec
         Kind::Unknown | Kind::Known => {}
         Kind::WrongSum => line = with_wrong_sum(chance, framing, &message),
         Kind::EscapedLength => line = with_escaped_length(&line),
+        Kind::EscapedByte => line = with_escaped_byte(chance, &message),
         Kind::NoDigit => with_no_digit(chance, &mut line),
         Kind::NoStop => line[2 * length + 7] = chance.of(b"\x0B0F\x00\x7E\xFF"),
         Kind::CutShort => {
@@ -108,7 +130,7 @@ fn line(chance: &mut Chance, framing: Framing, length: usize, kind: Kind) -> Vec
 }
 
 /// Hands a stream to calls in parts that end at these places; what a call leaves is handed in again.
-fn in_parts(stream: &[u8], ends: &[usize], mut call: impl FnMut(&[u8]) -> Answer) {
+pub fn in_parts(stream: &[u8], ends: &[usize], mut call: impl FnMut(&[u8]) -> Answer) {
     let mut at = 0;
     for &end in ends {
         while let Answer::Reading(reading) | Answer::Hearing { reading, .. } = call(&stream[at..end]) {
@@ -129,15 +151,15 @@ fn hear_kept(calls: &mut Calls, bytes: &[u8]) -> Answer {
 }
 
 /// Each kind's frame of every length, read from a fresh reader, and heard with a good one behind it: the table
-/// has what the good one says and nothing of the other.
+/// has what the good one says and nothing of the other. Under both rules of escapes.
 pub fn every_length(chance: &mut Chance, calls: &mut Calls, _: u64) {
     fresh_table(calls);
-    for framing in FRAMINGS {
-        calls.call(Call::Fresh { framing: number(framing) });
+    for (framing, escapes) in FRAMINGS_AND_RULES {
+        calls.call(Call::Fresh { framing: number(framing), escapes });
         for length in 1..=LONGEST {
             for &kind in kinds(framing) {
                 let mut stream = line(chance, framing, length, kind);
-                let reader = Some(Reader::fresh(chance.framing_number(framing)));
+                let reader = Some(Reader::fresh(chance.framing_number(framing), escapes));
                 calls.call(Call::Read { reader, bytes: stream.clone() });
                 stream.extend(frame(framing, &made::table_message(chance)));
                 in_parts(&stream, &[stream.len()], |bytes| hear_kept(calls, bytes));
@@ -155,7 +177,7 @@ pub fn byte_by_byte(chance: &mut Chance, calls: &mut Calls, _: u64) {
         let kinds = kinds(framing);
         for length in 1..=LONGEST {
             for k in 0..if is_telling(length) { kinds.len() } else { 1 } {
-                calls.call(Call::Fresh { framing: number(framing) });
+                calls.call(Call::Fresh { framing: number(framing), escapes: chance.escapes() });
                 for byte in line(chance, framing, length, kinds[(length + k) % kinds.len()]) {
                     calls.call(Call::Step { reader: None, byte });
                 }
@@ -174,7 +196,7 @@ pub fn cut_in_two(chance: &mut Chance, calls: &mut Calls, _: u64) {
         for length in 1..=LONGEST {
             let line = line(chance, framing, length, Kind::Unknown);
             for cut in 0..=line.len() {
-                calls.call(Call::Fresh { framing: number(framing) });
+                calls.call(Call::Fresh { framing: number(framing), escapes: RULES[cut % 2] });
                 in_parts(&line, &[cut, line.len()], |bytes| read_kept(calls, bytes));
             }
         }
@@ -182,12 +204,13 @@ pub fn cut_in_two(chance: &mut Chance, calls: &mut Calls, _: u64) {
 }
 
 /// Frames of every kind and length, cut in two, from the reader that the frame before has left: the kinds take
-/// turns in being cut at every place. Of the telling lengths each kind's frame is cut at every place.
+/// turns in being cut at every place, and the rules of escapes from length to length. Of the telling lengths
+/// each kind's frame is cut at every place.
 pub fn kinds_cut_in_two(chance: &mut Chance, calls: &mut Calls, _: u64) {
     for framing in FRAMINGS {
         let kinds = kinds(framing);
-        calls.call(Call::Fresh { framing: number(framing) });
         for length in 1..=LONGEST {
+            calls.call(Call::Fresh { framing: number(framing), escapes: RULES[length % 2] });
             for (k, &kind) in kinds.iter().enumerate() {
                 let line = line(chance, framing, length, kind);
                 let is_turn = |cut: usize| is_telling(length) || cut % kinds.len() == k;
@@ -199,12 +222,13 @@ pub fn kinds_cut_in_two(chance: &mut Chance, calls: &mut Calls, _: u64) {
     }
 }
 
-/// A frame of each telling length that is broken off at every place, by a start and a good frame.
+/// A frame of each telling length that is broken off at every place, by a start and a good frame; under both
+/// rules of escapes.
 pub fn broken_off(chance: &mut Chance, calls: &mut Calls, _: u64) {
     fresh_table(calls);
-    for framing in FRAMINGS {
+    for (framing, escapes) in FRAMINGS_AND_RULES {
         for length in (1..=LONGEST).filter(|&length| is_telling(length)) {
-            calls.call(Call::Fresh { framing: number(framing) });
+            calls.call(Call::Fresh { framing: number(framing), escapes });
             let line = line(chance, framing, length, Kind::Unknown);
             for end in 1..line.len() {
                 let good = frame(framing, &made::table_message(chance));
@@ -219,8 +243,8 @@ pub fn broken_off(chance: &mut Chance, calls: &mut Calls, _: u64) {
 
 /// Every escape at the length's place: a 7Dh, then any byte, and as many bytes as it then says.
 pub fn escaped_lengths(chance: &mut Chance, calls: &mut Calls, _: u64) {
-    calls.call(Call::Fresh { framing: number(Binary) });
-    for byte in 0..=255 {
+    for (escapes, byte) in RULES.iter().flat_map(|&e| (0..=255).map(move |byte| (e, byte))) {
+        calls.call(Call::Fresh { framing: number(Binary), escapes });
         let message = message(chance, usize::from(byte ^ 0x20), 0x22);
         let stream = [&[start(Binary), 0x7D, byte], &coded(Binary, &summed(&message)[1..])[..]].concat();
         for cut in 0..4 {

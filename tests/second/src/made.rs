@@ -1,7 +1,7 @@
 //! Made inputs: messages, frames, damage, streams, readers and tables, from a seed.
 
 use crate::messages::{checked_bytes, is_for_a_unit, length_of, Allowed, LENGTHS, LONGEST, LONGEST_KNOWN};
-use crate::parts::{coded, frame, start, Ascii, Binary, Framing};
+use crate::parts::{coded, frame, start, Ascii, Binary, Escapes, Framing, RULES};
 use crate::reader::{Reader, DIGIT_PENDING};
 use crate::table::TABLE_BYTES;
 
@@ -49,12 +49,25 @@ impl Chance {
             Ascii => self.of(&[1, 1, 1, 2, 128, 255]),
         }
     }
+
+    pub fn escapes(&mut self) -> Escapes {
+        self.of(&RULES)
+    }
+
+    /// A number for the rule of escapes in a reader: the strict one's, the old one's, or any.
+    pub fn escapes_number(&mut self) -> u8 {
+        match self.below(3) {
+            0 => 0,
+            1 => 1,
+            _ => self.byte(),
+        }
+    }
 }
 
 /// Bytes at which a quick build goes wrong.
-const TELLING: [u8; 24] = [
-    0x00, 0x01, 0x0A, 0x0D, 0x12, 0x13, 0x20, 0x2F, 0x30, 0x39, 0x3A, 0x40, 0x41, 0x46, 0x47, 0x5D, 0x5E,
-    0x61, 0x66, 0x7C, 0x7D, 0x7E, 0xFE, 0xFF,
+const TELLING: [u8; 26] = [
+    0x00, 0x01, 0x0A, 0x0D, 0x12, 0x13, 0x20, 0x2F, 0x30, 0x39, 0x3A, 0x40, 0x41, 0x46, 0x47, 0x5C, 0x5D,
+    0x5E, 0x5F, 0x61, 0x66, 0x7C, 0x7D, 0x7E, 0xFE, 0xFF,
 ];
 
 /// Lengths at which a quick build goes wrong: around the longest of the 41, around those whose length byte
@@ -162,16 +175,17 @@ pub fn doubtful_message(chance: &mut Chance) -> Vec<u8> {
     message
 }
 
-/// The frame of a message with escapes that the writer would not make; the same in ASCII.
-fn loosely_escaped(chance: &mut Chance, framing: Framing, message: &[u8]) -> Vec<u8> {
+/// The frame of a message with escapes that the writer would not make, few or many; the same in ASCII.
+pub fn loosely_escaped(chance: &mut Chance, framing: Framing, message: &[u8]) -> Vec<u8> {
     let line = frame(framing, message);
     if framing == Ascii {
         return line;
     }
+    let seldom = chance.of(&[4, line.len()]);
     let mut loose = vec![line[0]];
     let mut escaped = false;
     for &byte in &line[1..] {
-        if !escaped && byte != 0x7D && byte != 0x5E && chance.one_in(4) {
+        if !escaped && byte != 0x7D && byte != 0x5E && chance.one_in(seldom) {
             loose.extend([0x7D, byte ^ 0x20]);
         } else {
             loose.push(byte);
@@ -179,6 +193,13 @@ fn loosely_escaped(chance: &mut Chance, framing: Framing, message: &[u8]) -> Vec
         escaped = !escaped && byte == 0x7D;
     }
     loose
+}
+
+/// A frame in which noise has changed the byte after a 7Dh, where there is one.
+fn noisy_escape(chance: &mut Chance, line: &mut [u8]) {
+    if let Some(at) = line.iter().position(|&b| b == 0x7D) {
+        line[at + 1] = if chance.one_in(2) { line[at + 1] ^ (1 << chance.below(8)) } else { byte(chance) };
+    }
 }
 
 /// Damage as a cable does it, to one place or two.
@@ -218,7 +239,7 @@ fn with_another_length(chance: &mut Chance, framing: Framing) -> Vec<u8> {
 /// A piece of a stream: good, bad, long, damaged, or no frame at all.
 pub fn piece(chance: &mut Chance, framing: Framing) -> Vec<u8> {
     let message = good_or_long(chance);
-    match chance.below(12) {
+    match chance.below(13) {
         0..=2 => frame(framing, &message),
         3 => loosely_escaped(chance, framing, &message),
         4 | 5 => frame(framing, &doubtful_message(chance)),
@@ -237,6 +258,11 @@ pub fn piece(chance: &mut Chance, framing: Framing) -> Vec<u8> {
         10 => {
             let length = chance.below(30);
             bytes(chance, length)
+        }
+        11 => {
+            let mut line = frame(framing, &message);
+            noisy_escape(chance, &mut line);
+            line
         }
         _ => vec![start(framing); 1 + chance.below(3)],
     }
@@ -288,7 +314,8 @@ pub fn reader(chance: &mut Chance) -> Reader {
     let mut held_bytes = [0; LONGEST + 3];
     held_bytes.iter_mut().for_each(|b| *b = byte(chance));
     held_bytes[0] = length;
-    Reader { framing: chance.framing_number(framing), mode, digit, held, bytes: held_bytes }
+    let (framing, escapes) = (chance.framing_number(framing), chance.escapes_number());
+    Reader { framing, mode, digit, held, bytes: held_bytes, escapes }
 }
 
 /// A sound reader in the middle of a good or a long frame, and the rest of that frame.
@@ -297,7 +324,7 @@ pub fn reader_and_rest(chance: &mut Chance) -> (Reader, Vec<u8>) {
     let message = if chance.one_in(4) { long_message(chance) } else { some_good_message(chance) };
     let line = frame(framing, &message);
     let at = 1 + chance.below(line.len() - 1);
-    let fresh = Reader::fresh(u8::from(framing == Ascii));
+    let fresh = Reader::fresh(u8::from(framing == Ascii), chance.escapes());
     (crate::reader::read(&fresh, &line[..at]).reader, line[at..].to_vec())
 }
 

@@ -6,6 +6,8 @@ mod cards;
 mod commands;
 mod counts;
 mod driver;
+mod escapes;
+mod faults;
 mod lines;
 mod long;
 mod made;
@@ -107,6 +109,7 @@ fn run_self(words: &Words) -> ! {
     }
     tally.note("card 13: the report", cards::card_13_is_reported());
     selftest::run(&mut Chance::new(words.seed()), &mut tally);
+    faults::run(&mut tally);
     tally.end()
 }
 

@@ -6,8 +6,9 @@ use std::thread;
 use std::time::Instant;
 
 use crate::cards::card_13;
+use crate::escapes::{with_escape, CARD_4, SHORTEST};
 use crate::made::{self, Chance};
-use crate::parts::{frame, Binary};
+use crate::parts::{frame, summed, Binary};
 use crate::report::{report, CAPTURE};
 use crate::Tally;
 
@@ -73,6 +74,13 @@ fn with_a_frame_to(chance: &mut Chance, end: usize, length: usize) -> Vec<u8> {
     [before, frame, after].concat()
 }
 
+/// A message's frames with every byte after a 7Dh at every place behind the start, a good frame behind each.
+fn with_every_escape(message: &[u8]) -> Vec<u8> {
+    let recovered = summed(message);
+    let escapes = (0..recovered.len()).flat_map(|place| (0..=255).map(move |byte| (place, byte)));
+    escapes.flat_map(|(place, byte)| with_escape(&recovered, place, byte).0).collect()
+}
+
 pub fn run(command: &[String], chance: &mut Chance, captures: u64, tally: &mut Tally) {
     let (capture, text) = card_13();
     let on_card_13 = printed(command, &capture, Handed::AtOnce);
@@ -88,6 +96,11 @@ pub fn run(command: &[String], chance: &mut Chance, captures: u64, tally: &mut T
             tally.note(&name, is_reported(command, &capture, Handed::AtOnce));
         }
     }
+    let escapes = [SHORTEST, CARD_4].iter().all(|message| {
+        let capture = with_every_escape(message);
+        capture.len() <= CAPTURE && is_reported(command, &capture, Handed::AtOnce)
+    });
+    tally.note("nxread: every byte after 7Dh, by the old rule of escapes", escapes);
     let began = Instant::now();
     let starts = is_reported(command, &vec![0x7E; CAPTURE], Handed::AtOnce);
     tally.note(&format!("nxread: 65536 start bytes, {:.2} s", began.elapsed().as_secs_f64()), starts);

@@ -12,6 +12,19 @@ pub enum Framing {
 
 pub use Framing::{Ascii, Binary};
 
+/// How a binary reader takes a 7Dh and the byte after it (document 02, No. 5); in ASCII it has no effect.
+#[derive(Clone, Copy, PartialEq, Eq, Debug)]
+pub enum Escapes {
+    /// "7Dh followed by a byte other than 5Eh, 5Dh or 7Eh is verdict 15 at that byte".
+    Strict,
+    /// "The old rule": any byte may follow but 7Eh, which starts a frame.
+    Lenient,
+}
+
+pub use Escapes::{Lenient, Strict};
+
+pub const RULES: [Escapes; 2] = [Strict, Lenient];
+
 const STOP: u8 = 0x0D;
 const DIGITS: &[u8; 16] = b"0123456789ABCDEF";
 
@@ -98,17 +111,27 @@ fn is_length(byte: u8) -> bool {
     (1..=LONGEST).contains(&usize::from(byte))
 }
 
-/// The recovered bytes of a binary part, each with the index of the byte that completes it, and whether
-/// the part ends after a 7Dh.
-pub fn unstuffed(part: &[u8]) -> (Vec<(u8, usize)>, bool) {
+/// A recovered byte of a binary part.
+#[derive(Clone, Copy)]
+pub struct Recovered {
+    pub byte: u8,
+    /// The index of the byte that completes it.
+    pub at: usize,
+    /// Whether it was escaped and need not have been.
+    pub loose: bool,
+}
+
+/// The recovered bytes of a binary part, and whether the part ends after a 7Dh.
+pub fn unstuffed(part: &[u8]) -> (Vec<Recovered>, bool) {
     let mut recovered = Vec::new();
     let mut at = 1;
     while at < part.len() {
         if part[at] != 0x7D {
-            recovered.push((part[at], at));
+            recovered.push(Recovered { byte: part[at], at, loose: false });
             at += 1;
-        } else if at + 1 < part.len() {
-            recovered.push((part[at + 1] ^ 0x20, at + 1));
+        } else if let Some(&after) = part.get(at + 1) {
+            let loose = after != 0x5E && after != 0x5D;
+            recovered.push(Recovered { byte: after ^ 0x20, at: at + 1, loose });
             at += 2;
         } else {
             return (recovered, true);
@@ -117,18 +140,25 @@ pub fn unstuffed(part: &[u8]) -> (Vec<(u8, usize)>, bool) {
     (recovered, false)
 }
 
-fn judge_binary(part: &[u8]) -> Option<Judged> {
-    let (recovered, _) = unstuffed(part);
-    let &(length, at) = recovered.first()?;
-    if !is_length(length) {
-        return Some(plain(4, at));
+/// Of the bytes that a frame can have, those behind its last sum left out: 15 at the first that was escaped
+/// without need, where the rule is strict; else 4 at a length that is none; else what the whole frame is.
+fn judge_binary(escapes: Escapes, part: &[u8]) -> Option<Judged> {
+    let (mut recovered, _) = unstuffed(part);
+    let length = *recovered.first()?;
+    let needed = if is_length(length.byte) { usize::from(length.byte) + 3 } else { 1 };
+    recovered.truncate(needed);
+    let bad_escape = recovered.iter().find(|r| escapes == Strict && r.loose);
+    if let Some(bad) = bad_escape {
+        return Some(plain(15, bad.at));
     }
-    let needed = usize::from(length) + 3;
-    let bytes: Vec<u8> = recovered.iter().take(needed).map(|pair| pair.0).collect();
-    if bytes.len() < needed {
+    if !is_length(length.byte) {
+        return Some(plain(4, length.at));
+    }
+    if recovered.len() < needed {
         return None;
     }
-    Some(whole(&bytes, recovered[needed - 1].1))
+    let bytes: Vec<u8> = recovered.iter().map(|r| r.byte).collect();
+    Some(whole(&bytes, recovered[needed - 1].at))
 }
 
 /// The value of a digit character.
@@ -145,7 +175,7 @@ pub fn paired(characters: &[u8]) -> Vec<u8> {
 pub fn length_in(framing: Framing, part: &[u8]) -> Option<u8> {
     let head = &part[..part.len().min(3)];
     match framing {
-        Binary => unstuffed(head).0.first().map(|pair| pair.0),
+        Binary => unstuffed(head).0.first().map(|r| r.byte),
         Ascii => paired(&head[1..]).first().copied(),
     }
 }
@@ -170,15 +200,15 @@ fn judge_ascii(part: &[u8]) -> Option<Judged> {
 }
 
 /// The verdict of a part that begins with a start byte and has no other; none where it is unfinished.
-pub fn judge(framing: Framing, part: &[u8]) -> Option<Judged> {
+pub fn judge(framing: Framing, escapes: Escapes, part: &[u8]) -> Option<Judged> {
     match framing {
-        Binary => judge_binary(part),
+        Binary => judge_binary(escapes, part),
         Ascii => judge_ascii(part),
     }
 }
 
 /// The verdicts of a stream, in order. An unfinished part is 1 if another follows, else silent.
-pub fn verdicts(framing: Framing, stream: &[u8]) -> impl Iterator<Item = Judged> + '_ {
+pub fn verdicts(framing: Framing, escapes: Escapes, stream: &[u8]) -> impl Iterator<Item = Judged> + '_ {
     let next_start =
         move |from: usize| stream[from..].iter().position(|&b| b == start(framing)).map(|k| from + k);
     let mut begin = next_start(0);
@@ -187,7 +217,7 @@ pub fn verdicts(framing: Framing, stream: &[u8]) -> impl Iterator<Item = Judged>
         let next = next_start(this + 1);
         begin = next;
         let part = &stream[this..next.unwrap_or(stream.len())];
-        match judge(framing, part) {
+        match judge(framing, escapes, part) {
             Some(judged) => Some(Judged { at: this + judged.at, ..judged }),
             None => next.map(|at| plain(1, at)),
         }

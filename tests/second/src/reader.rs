@@ -3,7 +3,8 @@
 //! bytes and its own say.
 
 use crate::messages::LONGEST;
-use crate::parts::{coded, digit, length_in, paired, start, unstuffed, verdicts, Ascii, Binary, Framing};
+use crate::parts::{coded, digit, paired, start, unstuffed, verdicts, Ascii, Binary, Framing};
+use crate::parts::{Escapes, Lenient, Strict};
 
 /// Where there is no verdict yet.
 pub const NONE: u8 = 255;
@@ -21,6 +22,8 @@ pub struct Reader {
     pub digit: u8,
     pub held: u16,
     pub bytes: [u8; LONGEST + 3],
+    /// Handed back as it was, whatever it is.
+    pub escapes: u8,
 }
 
 /// The fields of nx584_reading.
@@ -41,17 +44,26 @@ pub fn framing_of(number: u8) -> Framing {
     }
 }
 
+pub fn escapes_of(number: u8) -> Escapes {
+    match number {
+        0 => Strict,
+        _ => Lenient,
+    }
+}
+
 impl Reader {
-    pub fn fresh(framing: u8) -> Reader {
-        let framing = u8::from(framing != 0);
-        Reader { framing, mode: SKIPPING, digit: 0, held: 0, bytes: [0; LONGEST + 3] }
+    /// "A reader made without saying otherwise is now strict .. The old rule can be asked for".
+    pub fn fresh(framing: u8, escapes: Escapes) -> Reader {
+        let (framing, escapes) = (u8::from(framing != 0), u8::from(escapes == Lenient));
+        Reader { framing, mode: SKIPPING, digit: 0, held: 0, bytes: [0; LONGEST + 3], escapes }
     }
 
-    fn holding(framing: Framing, mode: u8, digit: u8, recovered: &[u8]) -> Reader {
+    /// A reader of the same rule that holds these bytes.
+    fn holding(&self, mode: u8, digit: u8, recovered: &[u8]) -> Reader {
+        let (framing, held) = (u8::from(self.framing != 0), recovered.len() as u16);
         let mut bytes = [0; LONGEST + 3];
         bytes[..recovered.len()].copy_from_slice(recovered);
-        let held = recovered.len() as u16;
-        Reader { framing: u8::from(framing == Ascii), mode, digit, held, bytes }
+        Reader { framing, mode, digit, held, bytes, escapes: self.escapes }
     }
 
     /// "No recovered byte, or the first is a length L" of 1 to 255 (document 02, No. 2) "and it holds at
@@ -89,15 +101,13 @@ impl Reader {
         line
     }
 
-    /// The length byte of the frame in which the last of these bytes gave a verdict; none where it had none
-    /// before that byte.
-    pub fn length_heard(&self, bytes: &[u8]) -> Option<u8> {
-        let framing = framing_of(self.framing);
+    /// The part in which the last of these bytes gave a verdict, as far as it had come before that byte.
+    pub fn part_heard(&self, bytes: &[u8]) -> Option<Vec<u8>> {
         let mut line = self.line();
         line.extend_from_slice(bytes);
         line.pop()?;
-        let begin = line.iter().rposition(|&b| b == start(framing))?;
-        length_in(framing, &line[begin..])
+        let begin = line.iter().rposition(|&b| b == start(framing_of(self.framing)))?;
+        Some(line.split_off(begin))
     }
 
     /// A reader that skips keeps what it holds until a start comes.
@@ -106,19 +116,19 @@ impl Reader {
     }
 
     /// The reader after a part, up to where it was heard, that has no verdict.
-    fn after(framing: Framing, part: &[u8]) -> Reader {
-        match framing {
+    fn after(&self, part: &[u8]) -> Reader {
+        match framing_of(self.framing) {
             Binary => {
                 let (recovered, open) = unstuffed(part);
-                let held: Vec<u8> = recovered.iter().map(|pair| pair.0).collect();
-                Reader::holding(Binary, if open { AFTER_7D } else { IN_FRAME }, 0, &held)
+                let held: Vec<u8> = recovered.iter().map(|r| r.byte).collect();
+                self.holding(if open { AFTER_7D } else { IN_FRAME }, 0, &held)
             }
             Ascii => {
                 let characters = &part[1..];
                 let held = paired(characters);
                 match characters.get(2 * held.len()).and_then(|&c| digit(c)) {
-                    Some(value) => Reader::holding(Ascii, DIGIT_PENDING, value, &held),
-                    None => Reader::holding(Ascii, IN_FRAME, 0, &held),
+                    Some(value) => self.holding(DIGIT_PENDING, value, &held),
+                    None => self.holding(IN_FRAME, 0, &held),
                 }
             }
         }
@@ -128,8 +138,8 @@ impl Reader {
     /// not count.
     pub fn is_met_by(&self, answered: &Reader) -> bool {
         let held = usize::from(self.held).min(self.bytes.len());
-        let same = (self.framing, self.mode, self.digit) == (answered.framing, answered.mode, answered.digit);
-        same && self.held == answered.held && self.bytes[..held] == answered.bytes[..held]
+        let rest = |r: &Reader| (r.framing, r.mode, r.digit, r.held, r.escapes);
+        rest(self) == rest(answered) && self.bytes[..held] == answered.bytes[..held]
     }
 }
 
@@ -154,13 +164,13 @@ pub fn read(reader: &Reader, bytes: &[u8]) -> Reading {
     let mut line = reader.line();
     let before = line.len();
     line.extend_from_slice(bytes);
-    let first = verdicts(framing, &line).next();
+    let first = verdicts(framing, escapes_of(reader.escapes), &line).next();
     let mut message = [0; LONGEST];
     match first {
         None => Reading {
             reader: match line.iter().position(|&b| b == start(framing)) {
                 None => reader.still_skipping(),
-                Some(begin) => Reader::after(framing, &line[begin..]),
+                Some(begin) => reader.after(&line[begin..]),
             },
             used: bytes.len() as u64,
             verdict: NONE,
@@ -173,7 +183,7 @@ pub fn read(reader: &Reader, bytes: &[u8]) -> Reading {
             // where 1 is given, the same byte opens the next frame
             let mode = if judged.verdict == 1 { IN_FRAME } else { SKIPPING };
             Reading {
-                reader: Reader::holding(framing, mode, 0, &[]),
+                reader: reader.holding(mode, 0, &[]),
                 used: (judged.at + 1 - before) as u64,
                 verdict: judged.verdict,
                 type_byte: judged.type_byte.unwrap_or(0),

@@ -1,6 +1,7 @@
-//! What nxread prints (document 01, "The overview").
+//! What nxread prints (document 01, "The overview"). It reads by the old rule of escapes: "the old rule can be
+//! asked for; nxread and the technicians' captures now do" (document 02, No. 5).
 
-use crate::parts::{verdicts, Binary};
+use crate::parts::{verdicts, Binary, Lenient};
 use crate::table::{apply, view, TABLE_BYTES};
 use crate::writer::reply;
 
@@ -14,7 +15,7 @@ fn hex_or_dashes(value: Option<u8>) -> String {
 pub fn report(capture: &[u8]) -> String {
     let mut table = vec![0; TABLE_BYTES];
     let mut text = String::new();
-    for judged in verdicts(Binary, &capture[..capture.len().min(CAPTURE)]) {
+    for judged in verdicts(Binary, Lenient, &capture[..capture.len().min(CAPTURE)]) {
         if judged.verdict == 0 {
             assert_eq!(apply(&mut table, &judged.message), 0, "a good message is taken");
         }

@@ -7,9 +7,10 @@ use crate::commands::{take, tick, told, waiting, Sending, Slot, GIVEN_UP, NOT_EN
 use crate::made::{self, Chance};
 use crate::messages::{sums, sums_in_eight_bits, verdict_of, LENGTHS, LONGEST, LONGEST_KNOWN};
 use crate::odd;
-use crate::parts::{frame, verdicts, Ascii, Binary, Framing, Judged};
-use crate::reader::NONE;
+use crate::parts::{frame, verdicts, Ascii, Binary, Escapes, Framing, Judged, Lenient, Strict, RULES};
+use crate::reader::{read, Reader, AFTER_7D, NONE};
 use crate::table::{apply, partition_record, system_record, zone_record, TABLE_BYTES};
+use crate::trials::{number, FRAMINGS_AND_RULES};
 use crate::writer::write;
 use crate::Tally;
 
@@ -20,7 +21,7 @@ fn worked_example() -> bool {
     sums(&[0x07, 0x84, 0x09, 0x7E, 0x10, 0x58, 0x01, 0x00]) == (0x7C, 0xD1)
         && frame(Ascii, &message) == ascii
         && frame(Binary, &message) == [0x7E, 0x07, 0x84, 0x09, 0x7D, 0x5E, 0x10, 0x58, 0x01, 0x00, 0x7C, 0xD1]
-        && verdicts(Ascii, ascii).map(|j| (j.verdict, j.type_byte)).eq([(7, Some(0x84))])
+        && verdicts(Ascii, Strict, ascii).map(|j| (j.verdict, j.type_byte)).eq([(7, Some(0x84))])
 }
 
 fn sums_are_the_pseudo_code(chance: &mut Chance) -> bool {
@@ -38,7 +39,7 @@ fn lengths_add_up() -> bool {
         && LENGTHS.iter().map(|row| row.1).max() == Some(LONGEST_KNOWN)
 }
 
-/// A written frame has at most 41 or 44 bytes, and gives its message back, after noise too.
+/// A written frame has at most 41 or 44 bytes, and gives its message back, after noise too and by either rule.
 fn frames_are_read_back(chance: &mut Chance) -> bool {
     (0..20_000).all(|k| {
         let framing = [Binary, Ascii][k % 2];
@@ -47,18 +48,19 @@ fn frames_are_read_back(chance: &mut Chance) -> bool {
         let line = &written.out[..written.length as usize];
         let noise_length = chance.below(40);
         let stream = [made::bytes(chance, noise_length), line.to_vec()].concat();
-        let last = verdicts(framing, &stream).last();
+        let last = |escapes| verdicts(framing, escapes, &stream).last();
         verdict_of(&message) == 0
             && written.number == 0
             && line.len() <= [41, 44][k % 2]
-            && last.map_or(false, |j| (j.verdict, j.message) == (0, message))
+            && RULES.iter().all(|&e| last(e).map_or(false, |j| j.verdict == 0 && j.message == message))
     })
 }
 
 /// The verdict of each length byte with a 22h and zeros behind it, as many bytes as it says and then its
 /// sums: 4 at the length for 0, 6 at the last byte for every other, silence where that is missing.
-fn every_length_is_read(framing: Framing) -> bool {
-    let judged = |line: &[u8]| verdicts(framing, line).map(|j| (j.verdict, j.at)).collect::<Vec<_>>();
+fn every_length_is_read(framing: Framing, escapes: Escapes) -> bool {
+    let judged =
+        |line: &[u8]| verdicts(framing, escapes, line).map(|j| (j.verdict, j.at)).collect::<Vec<_>>();
     let last = |line: &[u8]| line.len() - 1;
     let start_and_0 = &frame(framing, &[])[..if framing == Ascii { 3 } else { 2 }];
     judged(start_and_0) == [(4, last(start_and_0))]
@@ -71,10 +73,10 @@ fn every_length_is_read(framing: Framing) -> bool {
 }
 
 /// The verdicts of a stream that is read in cuts, unused bytes handed in again.
-fn verdicts_in_cuts(chance: &mut Chance, framing: Framing, stream: &[u8]) -> Vec<Judged> {
+fn verdicts_in_cuts(chance: &mut Chance, framing: Framing, escapes: Escapes, stream: &[u8]) -> Vec<Judged> {
     let mut second = Second::new();
     let mut judged = Vec::new();
-    second.call(&Call::Fresh { framing: u8::from(framing == Ascii) });
+    second.call(&Call::Fresh { framing: number(framing), escapes });
     let (mut at, mut end) = (0, 0);
     while at < stream.len() {
         end = stream.len().min(end + chance.below(9));
@@ -95,13 +97,91 @@ fn verdicts_in_cuts(chance: &mut Chance, framing: Framing, stream: &[u8]) -> Vec
     judged
 }
 
-fn cuts_do_not_matter(chance: &mut Chance) -> bool {
+fn cuts_do_not_matter(chance: &mut Chance, escapes: Escapes) -> bool {
     (0..3_000).all(|_| {
         let framing = chance.framing();
         let stream = made::stream(chance, framing, 6);
-        let whole: Vec<Judged> = verdicts(framing, &stream).collect();
-        verdicts_in_cuts(chance, framing, &stream) == whole
+        let whole: Vec<Judged> = verdicts(framing, escapes, &stream).collect();
+        verdicts_in_cuts(chance, framing, escapes, &stream) == whole
     })
+}
+
+/// The verdicts of a binary stream by the strict rule, from readers of the old one, byte by byte: document 02's
+/// sentence on the byte after a 7Dh is looked at first, and after a 15 all is skipped up to the next start.
+fn strict_by_steps(stream: &[u8]) -> Vec<(u8, usize)> {
+    let mut reader = Reader::fresh(0, Lenient);
+    let mut given = Vec::new();
+    for (at, &byte) in stream.iter().enumerate() {
+        if reader.mode == AFTER_7D && ![0x5E, 0x5D, 0x7E].contains(&byte) {
+            given.push((15, at));
+            reader = Reader::fresh(0, Lenient);
+        } else {
+            let reading = read(&reader, &[byte]);
+            given.extend((reading.verdict != NONE).then(|| (reading.verdict, at)));
+            reader = reading.reader;
+        }
+    }
+    given
+}
+
+fn strict_is_a_look_more(chance: &mut Chance) -> bool {
+    let mut fifteens = 0;
+    (0..1_000).all(|_| {
+        let stream = made::stream(chance, Binary, 6);
+        let judged: Vec<Judged> = verdicts(Binary, Strict, &stream).collect();
+        let bare = |j: &Judged| j.type_byte.is_none() && j.message.is_empty();
+        fifteens += judged.iter().filter(|j| j.verdict == 15).count();
+        judged.iter().all(|j| j.verdict != 15 || bare(j))
+            && judged.iter().map(|j| (j.verdict, j.at)).eq(strict_by_steps(&stream))
+    }) && fifteens > 200
+}
+
+/// Whether each 7Dh on a binary line stands before what it must: every pair is looked at from the left.
+fn escapes_are_needed(line: &[u8]) -> bool {
+    match line {
+        [0x7D, 0x5D | 0x5E, rest @ ..] => escapes_are_needed(rest),
+        [0x7D, 0x7E, ..] | [0x7D] => escapes_are_needed(&line[1..]),
+        [0x7D, ..] => false,
+        [_, rest @ ..] => escapes_are_needed(rest),
+        [] => true,
+    }
+}
+
+/// Streams whose every escape was needed have the same verdicts by either rule; so has every one in ASCII.
+fn needed_escapes_are_read_alike(chance: &mut Chance) -> bool {
+    let mut escaped = 0;
+    (0..6_000).all(|k| {
+        let framing = [Binary, Binary, Ascii][k % 3];
+        let stream = made::stream(chance, framing, 3);
+        if framing == Binary && !escapes_are_needed(&stream) {
+            return true;
+        }
+        escaped += usize::from(framing == Binary && stream.contains(&0x7D));
+        verdicts(framing, Strict, &stream).eq(verdicts(framing, Lenient, &stream))
+    }) && escaped > 500
+}
+
+/// Demand 2's second round trip: a good message that was read from a frame, written again in the same framing,
+/// gives that frame. By the strict rule always, by the old one exactly if its escapes were needed.
+fn read_frames_are_written_again(chance: &mut Chance) -> bool {
+    let mut unneeded = 0;
+    (0..20_000).all(|k| {
+        let framing = [Binary, Binary, Ascii][k % 3];
+        let message = made::some_good_message(chance);
+        let line = made::loosely_escaped(chance, framing, &message);
+        let needed = framing == Ascii || escapes_are_needed(&line);
+        unneeded += usize::from(!needed);
+        RULES.iter().all(|&escapes| {
+            let reading = read(&Reader::fresh(number(framing), escapes), &line);
+            let message = &reading.message[..usize::from(reading.length)];
+            let again = write(message, number(framing), &vec![0; line.len()], 0);
+            match (reading.verdict, escapes) {
+                (0, Strict) => needed && again.out == line,
+                (0, Lenient) => again.number == 0 && (again.out == line) == needed,
+                (verdict, _) => verdict == 15 && escapes == Strict && !needed,
+            }
+        })
+    }) && unneeded > 5_000
 }
 
 /// A record has what the messages about it said, and nothing of another's.
@@ -222,9 +302,13 @@ pub fn run(chance: &mut Chance, tally: &mut Tally) {
     tally.note("document 003's worked example", worked_example());
     tally.note("sums are those of document 003's pseudo-code", sums_are_the_pseudo_code(chance));
     tally.note("41 lengths", lengths_add_up());
-    tally.note("written frames are read back", frames_are_read_back(chance));
-    tally.note("every length is read", [Binary, Ascii].into_iter().all(every_length_is_read));
-    tally.note("cuts do not matter", cuts_do_not_matter(chance));
+    tally.note("written frames are read back, by either rule of escapes", frames_are_read_back(chance));
+    tally.note("every length is read", FRAMINGS_AND_RULES.iter().all(|&(f, e)| every_length_is_read(f, e)));
+    tally.note("cuts do not matter, strict", cuts_do_not_matter(chance, Strict));
+    tally.note("cuts do not matter, by the old rule", cuts_do_not_matter(chance, Lenient));
+    tally.note("strict is the old rule with a look at each escape", strict_is_a_look_more(chance));
+    tally.note("needed escapes are read alike by either rule", needed_escapes_are_read_alike(chance));
+    tally.note("read frames are written again", read_frames_are_written_again(chance));
     tally.note("records are what was said", records_are_what_was_said());
     tally.note("a silent gateway: sent four times, given up", silence_gives_up());
     tally.note("commands: in time, oldest first, none lost", lines_keep_their_word(chance));

@@ -3,12 +3,13 @@
 use crate::calls::{Answer, Call};
 use crate::counts::GOOD_FRAMES;
 use crate::driver::Calls;
+use crate::escapes;
 use crate::lines;
 use crate::long;
 use crate::made::{self, Chance};
 use crate::messages::{LENGTHS, LONGEST, LONGEST_KNOWN};
-use crate::parts::{frame, Ascii, Binary, Framing};
-use crate::reader::{framing_of, Reader, NONE};
+use crate::parts::{frame, Ascii, Binary, Escapes, Framing, Lenient, Strict, RULES};
+use crate::reader::{framing_of, Reader, Reading, NONE};
 use crate::table::TABLE_BYTES;
 
 /// A trial makes its calls: all there are, or as many as it is given.
@@ -19,7 +20,7 @@ pub struct Trial {
     pub make: fn(&mut Chance, &mut Calls, u64),
 }
 
-pub const TRIALS: [Trial; 27] = [
+pub const TRIALS: [Trial; 34] = [
     Trial { name: "reply: all 65,536 pairs", share: 0, make: all_replies },
     Trial { name: "every type byte at every length to 20", share: 0, make: all_types_and_lengths },
     Trial { name: "every value of every byte of every message", share: 0, make: all_values },
@@ -42,8 +43,15 @@ pub const TRIALS: [Trial; 27] = [
     Trial { name: "commands: every message told to every front", share: 0, make: lines::all_fronts },
     Trial { name: "commands: slots with one thing wrong", share: 0, make: lines::all_wrongs },
     Trial { name: "ASCII: every byte at every place of a frame", share: 0, make: all_characters },
-    Trial { name: "streams cut at random, read and step", share: 34, make: cut_streams },
-    Trial { name: "streams cut at random, hear", share: 17, make: heard_streams },
+    Trial { name: "escapes: both constructors, every framing", share: 0, make: escapes::constructors },
+    Trial { name: "escapes: every byte after 7Dh at every place", share: 0, make: escapes::every_byte },
+    Trial { name: "escapes: telling bytes after 7Dh in long frames", share: 0, make: escapes::long_frames },
+    Trial { name: "escapes: every byte to readers after a 7Dh", share: 0, make: escapes::after_7d },
+    Trial { name: "escapes: every number of a rule in a reader", share: 0, make: escapes::every_number },
+    Trial { name: "escapes: frames read and written again", share: 0, make: escapes::round_trips },
+    Trial { name: "streams cut at random, read and step", share: 28, make: cut_streams },
+    Trial { name: "streams cut at random, hear", share: 14, make: heard_streams },
+    Trial { name: "the same streams under both rules of escapes", share: 9, make: same_streams },
     Trial { name: "readers of any kind", share: 14, make: any_readers },
     Trial { name: "write around the edges of the buffer", share: 13, make: edge_writes },
     Trial { name: "apply to any table", share: 5, make: any_applies },
@@ -54,6 +62,8 @@ pub const TRIALS: [Trial; 27] = [
 ];
 
 pub const FRAMINGS: [Framing; 2] = [Binary, Ascii];
+pub const FRAMINGS_AND_RULES: [(Framing, Escapes); 4] =
+    [(Binary, Strict), (Binary, Lenient), (Ascii, Strict), (Ascii, Lenient)];
 
 pub fn number(framing: Framing) -> u8 {
     u8::from(framing == Ascii)
@@ -66,13 +76,20 @@ fn all_replies(_: &mut Chance, calls: &mut Calls, _: u64) {
     }
 }
 
-/// One message through the writer, the reader and the table.
+/// One message through the writer, readers of both rules and the table.
 pub fn all_ways(calls: &mut Calls, framing: Framing, message: &[u8]) {
     let line = frame(framing, message);
     let out = vec![0x5A; line.len()];
     calls.call(Call::Write { message: message.to_vec(), framing: number(framing), out, place: 0 });
-    calls.call(Call::Read { reader: Some(Reader::fresh(number(framing))), bytes: line });
+    read_by_both(calls, number(framing), &line);
     calls.call(Call::Apply { table: None, message: message.to_vec() });
+}
+
+/// The same bytes by fresh readers of both rules.
+fn read_by_both(calls: &mut Calls, framing: u8, bytes: &[u8]) {
+    for escapes in RULES {
+        calls.call(Call::Read { reader: Some(Reader::fresh(framing, escapes)), bytes: bytes.to_vec() });
+    }
 }
 
 pub fn fresh_table(calls: &mut Calls) {
@@ -127,8 +144,8 @@ fn good_frames(chance: &mut Chance, calls: &mut Calls, _: u64) {
     for framing in FRAMINGS {
         for (number, _) in LENGTHS {
             fresh_table(calls);
-            calls.call(Call::Fresh { framing: self::number(framing) });
-            for _ in 0..GOOD_FRAMES {
+            calls.call(Call::Fresh { framing: self::number(framing), escapes: chance.escapes() });
+            for k in 0..2 * GOOD_FRAMES {
                 let message = made::good_message(chance, number);
                 let line = frame(framing, &message);
                 let (room, place) = (line.len() + chance.below(4), chance.below(3) as u64);
@@ -136,7 +153,8 @@ fn good_frames(chance: &mut Chance, calls: &mut Calls, _: u64) {
                 let framing = chance.framing_number(framing);
                 calls.call(Call::Write { message, framing, out, place });
                 calls.call(Call::Hear { with: None, bytes: line.clone() });
-                calls.call(Call::Read { reader: Some(Reader::fresh(framing)), bytes: line });
+                let reader = Some(Reader::fresh(framing, RULES[(k % 2) as usize]));
+                calls.call(Call::Read { reader, bytes: line });
             }
             show_table(calls);
             calls.call(Call::View { table: None });
@@ -145,7 +163,7 @@ fn good_frames(chance: &mut Chance, calls: &mut Calls, _: u64) {
 }
 
 /// In ASCII frames of the shortest and longest messages and of two between, every byte at every place behind the
-/// start; read at once, and cut behind that place.
+/// start; read at once by readers of both rules of escapes, and cut behind that place by one of them in turn.
 fn all_characters(chance: &mut Chance, calls: &mut Calls, _: u64) {
     for number in [0x1D, 0x04, 0x08, 0x03] {
         let line = frame(Ascii, &made::good_message(chance, number));
@@ -153,10 +171,12 @@ fn all_characters(chance: &mut Chance, calls: &mut Calls, _: u64) {
             let mut line = line.clone();
             line[place] = byte;
             let (before, after) = line.split_at(place + 1);
-            let fresh = || Some(Reader::fresh(self::number(Ascii)));
-            calls.call(Call::Read { reader: fresh(), bytes: line.clone() });
-            calls.call(Call::Read { reader: fresh(), bytes: before.to_vec() });
-            calls.call(Call::Read { reader: None, bytes: after.to_vec() });
+            read_by_both(calls, self::number(Ascii), &line);
+            let fresh = Reader::fresh(self::number(Ascii), RULES[place % 2]);
+            let first = calls.call(Call::Read { reader: Some(fresh), bytes: before.to_vec() });
+            if let Answer::Reading(Reading { reader, .. }) = first {
+                calls.call(Call::Read { reader: Some(reader), bytes: after.to_vec() });
+            }
         }
     }
 }
@@ -181,21 +201,21 @@ fn edge_counts(length: u16) -> Vec<u16> {
 /// A reader of any kind in an empty read, and then a byte of each telling kind.
 fn step_telling(calls: &mut Calls, reader: &Reader) {
     calls.call(Call::Read { reader: Some(reader.clone()), bytes: vec![] });
-    for byte in [0x0A, 0x0D, 0x30, 0x46, 0x47, 0x5E, 0x7D, 0x7E] {
+    for byte in [0x0A, 0x0D, 0x30, 0x46, 0x47, 0x5D, 0x5E, 0x7D, 0x7E] {
         calls.call(Call::Step { reader: Some(reader.clone()), byte });
     }
 }
 
-/// Every telling length, every count held around its bound, every mode.
+/// Every telling length, every count held around its bound, every mode; in binary under both rules of escapes.
 fn edge_readers(_: &mut Chance, calls: &mut Calls, _: u64) {
     let modes = [(0, 0), (0, 99), (1, 0), (2, 0), (3, 0), (3, 15), (3, 16), (4, 0), (255, 0)];
-    for framing in [0, 1, 2] {
+    for (framing, escapes) in [(0, 0), (0, 1), (1, 0), (2, 255)] {
         for length in [0, 1, 2, 10, 17, 18, 19, 20, 124, 125, 126, 127, 253, 254, 255] {
             for held in edge_counts(u16::from(length)) {
                 for (mode, digit) in modes {
                     let mut bytes = [0x30; LONGEST + 3];
                     bytes[0] = length;
-                    step_telling(calls, &Reader { framing, mode, digit, held, bytes });
+                    step_telling(calls, &Reader { framing, mode, digit, held, bytes, escapes });
                 }
             }
         }
@@ -236,7 +256,7 @@ fn cut_streams(chance: &mut Chance, calls: &mut Calls, budget: u64) {
         let framing = chance.framing();
         let pieces = 1 + chance.below(12);
         let mut stream = made::stream(chance, framing, pieces);
-        calls.call(Call::Fresh { framing: chance.framing_number(framing) });
+        calls.call(Call::Fresh { framing: chance.framing_number(framing), escapes: chance.escapes() });
         if chance.one_in(1000) {
             stream.extend(made::long_noise(chance, framing));
             stream.extend(made::stream(chance, framing, pieces));
@@ -262,7 +282,7 @@ fn heard_streams(chance: &mut Chance, calls: &mut Calls, budget: u64) {
         let framing = chance.framing();
         let table = if chance.one_in(4) { made::table(chance) } else { vec![0; TABLE_BYTES] };
         calls.call(Call::Keep { table });
-        calls.call(Call::Fresh { framing: chance.framing_number(framing) });
+        calls.call(Call::Fresh { framing: chance.framing_number(framing), escapes: chance.escapes() });
         for _ in 0..20 {
             let mut stream = made::piece(chance, framing);
             stream.extend(frame(framing, &made::table_message(chance)));
@@ -272,6 +292,23 @@ fn heard_streams(chance: &mut Chance, calls: &mut Calls, budget: u64) {
         }
         show_table(calls);
         calls.call(Call::View { table: None });
+    }
+}
+
+/// Each stream twice, by a reader of either rule and into a fresh table.
+fn same_streams(chance: &mut Chance, calls: &mut Calls, budget: u64) {
+    while calls.made < budget {
+        let framing = chance.of(&[Binary, Binary, Binary, Ascii]);
+        let stream = made::stream(chance, framing, 20);
+        let cuts = chance.number();
+        for escapes in RULES {
+            fresh_table(calls);
+            calls.call(Call::Fresh { framing: number(framing), escapes });
+            in_reads(&mut Chance::new(cuts), &stream, |_, bytes| {
+                calls.call(Call::Hear { with: None, bytes: bytes.to_vec() })
+            });
+            show_table(calls);
+        }
     }
 }
 

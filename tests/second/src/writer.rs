@@ -33,7 +33,7 @@ pub fn write(message: &[u8], framing: u8, out: &[u8], place: u64) -> Written {
 pub fn reply(verdict: u8, type_byte: u8) -> u8 {
     let flag = type_byte & 0x80 != 0;
     match verdict {
-        1..=5 | 7 => 0x1E,
+        1..=5 | 7 | 15 => 0x1E,
         6 | 8 => 0x1F,
         0 if length_of(type_byte).is_some() => match type_byte & 0x3F {
             0x1C..=0x1F => 0,
