@@ -81,6 +81,22 @@ static void make_frames(uint8_t framing, uint8_t *bytes, size_t length, size_t d
         bytes[k] = any_byte();
 }
 
+/* Good binary frames with many escapes: of a message's bytes from the third on, which may be anything, half are
+ * 7Dh or 7Eh. */
+static void make_escaped_frames(uint8_t *bytes, size_t length)
+{
+    uint8_t m[18];
+    size_t at = 0;
+    while (at + 64 < length) {
+        size_t n = make_message(m, any_byte() % 8);
+        for (size_t k = 2; k < n; k++)
+            if (any_byte() & 1)
+                m[k] = 0x7D + (any_byte() & 1);
+        at += nx584_write(m, n, 0, bytes, length, at).length;
+    }
+    memset(bytes + at, 0, length - at);
+}
+
 /* One byte of a frame as it stands on the line. */
 static size_t put_byte(uint8_t framing, uint8_t *to, uint8_t byte)
 {
@@ -140,6 +156,7 @@ static messages made;
 static void binary_frames(size_t units) { make_frames(0, capture, units, 0); }
 static void ascii_frames(size_t units) { make_frames(1, capture, units, 0); }
 static void damaged_frames(size_t units) { make_frames(0, capture, units, 100); }
+static void escaped_frames(size_t units) { make_escaped_frames(capture, units); }
 static void long_binary_frames(size_t units) { make_long_frames(0, capture, units); }
 static void long_ascii_frames(size_t units) { make_long_frames(1, capture, units); }
 static void starts(size_t units) { memset(capture, 0x7E, units); }
@@ -182,14 +199,15 @@ static void noise(size_t units)
         capture[k] = any_byte();
 }
 
-static uint64_t read_binary(size_t units) { return loop_read(0, capture, units, units); }
-static uint64_t read_ascii(size_t units) { return loop_read(1, capture, units, units); }
-static uint64_t read_binary_1(size_t units) { return loop_read(0, capture, units, 1); }
-static uint64_t read_binary_16(size_t units) { return loop_read(0, capture, units, 16); }
-static uint64_t read_binary_64(size_t units) { return loop_read(0, capture, units, 64); }
-static uint64_t read_ascii_1(size_t units) { return loop_read(1, capture, units, 1); }
-static uint64_t read_ascii_16(size_t units) { return loop_read(1, capture, units, 16); }
-static uint64_t read_ascii_64(size_t units) { return loop_read(1, capture, units, 64); }
+static uint64_t read_binary(size_t units) { return loop_read(0, NX584_STRICT, capture, units, units); }
+static uint64_t read_old_rule(size_t units) { return loop_read(0, NX584_LENIENT, capture, units, units); }
+static uint64_t read_ascii(size_t units) { return loop_read(1, NX584_STRICT, capture, units, units); }
+static uint64_t read_binary_1(size_t units) { return loop_read(0, NX584_STRICT, capture, units, 1); }
+static uint64_t read_binary_16(size_t units) { return loop_read(0, NX584_STRICT, capture, units, 16); }
+static uint64_t read_binary_64(size_t units) { return loop_read(0, NX584_STRICT, capture, units, 64); }
+static uint64_t read_ascii_1(size_t units) { return loop_read(1, NX584_STRICT, capture, units, 1); }
+static uint64_t read_ascii_16(size_t units) { return loop_read(1, NX584_STRICT, capture, units, 16); }
+static uint64_t read_ascii_64(size_t units) { return loop_read(1, NX584_STRICT, capture, units, 64); }
 static uint64_t step_binary(size_t units) { return loop_step(0, capture, units); }
 static uint64_t step_ascii(size_t units) { return loop_step(1, capture, units); }
 static uint64_t write_binary(size_t units) { return (void)units, loop_write(0, &made); }
@@ -212,6 +230,8 @@ static const struct line {
     {"read binary, 16 bytes a call", "byte", binary_frames, read_binary_16, CAPTURE},
     {"read binary, 1 byte a call", "byte", binary_frames, read_binary_1, CAPTURE},
     {"step, binary", "byte", binary_frames, step_binary, CAPTURE},
+    {"read binary with escapes", "byte", escaped_frames, read_binary, CAPTURE},
+    {"read binary with escapes, old rule", "byte", escaped_frames, read_old_rule, CAPTURE},
     {"read ASCII frames", "byte", ascii_frames, read_ascii, CAPTURE},
     {"read ASCII, 64 bytes a call", "byte", ascii_frames, read_ascii_64, CAPTURE},
     {"read ASCII, 16 bytes a call", "byte", ascii_frames, read_ascii_16, CAPTURE},

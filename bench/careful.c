@@ -83,6 +83,10 @@ static void step_binary(nx584_reading *a, uint8_t byte)
 {
     nx584_reader *r = &a->reader;
     if (r->mode == ESCAPED) {
+        if (is_bad_escape(r, byte)) {
+            decided(a, 15);
+            return;
+        }
         byte ^= 0x20;
         r->mode = IN_FRAME;
     } else if (byte == ESCAPE) {

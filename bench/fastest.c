@@ -200,6 +200,7 @@ ALWAYS void to_digits(uint8_t *to, uint64_t w)
 /* ---- reader */
 
 enum { HEAD = offsetof(nx584_reader, bytes), HELD_MOST = NX584_LONGEST + 3 };
+enum { TAIL = 256, REST = offsetof(nx584_reading, used) }; /* of an answer: its reader's last vector, what was read */
 
 /* What a read gives beside its reader: used bytes, verdict and type byte, and for verdict 0 the frame's
  * length byte and message. Of a whole frame also how the reader changes: its head, which is all before its
@@ -355,12 +356,14 @@ ALWAYS taking take_up(const nx584_reader *r)
     return t;
 }
 
-/* One byte: 1 or 4, or 0 where it has no verdict by itself. */
-ALWAYS unsigned take_binary(taking *t, uint8_t *bytes, unsigned c)
+/* One byte: 1, 4 or 15, or 0 where it has no verdict by itself. */
+ALWAYS unsigned take_binary(taking *t, nx584_reader *r, unsigned c)
 {
     if (c == BINARY_START)
         return 1;
     if (t->mode == ESCAPED) {
+        if (is_bad_escape(r, (uint8_t)c))
+            return 15;
         c ^= 0x20;
         t->mode = IN_FRAME;
     } else if (c == ESCAPE) {
@@ -372,7 +375,7 @@ ALWAYS unsigned take_binary(taking *t, uint8_t *bytes, unsigned c)
             return 4;
         t->end = c + 3;
     }
-    bytes[t->held++] = (uint8_t)c;
+    r->bytes[t->held++] = (uint8_t)c;
     return 0;
 }
 
@@ -387,7 +390,7 @@ static void bytes_binary(scanned *s, nx584_reader *r, const uint8_t *b, size_t n
             t.held += count;
         }
         if (count < 16 && t.held != t.end)
-            verdict = take_binary(&t, r->bytes, b[i++]);
+            verdict = take_binary(&t, r, b[i++]);
         if (verdict != 0) {
             decided(s, 0, i, (uint8_t)verdict);
             return;
@@ -528,6 +531,15 @@ ALWAYS void put_two(uint8_t *to, uint64_t low, uint64_t high)
     memcpy(to, &both, 16);
 }
 
+/* A reader from some byte on, in an answer: its last bytes and its rule fill a vector, with what pads them. */
+ALWAYS void put_from(uint8_t *to, const nx584_reader *r, size_t begin)
+{
+    _Static_assert(offsetof(nx584_reader, escapes) == TAIL + 8 && REST == TAIL + 16, "a reader's words");
+    const uint8_t *old = (const uint8_t *)r;
+    memcpy(to + begin, old + begin, TAIL - begin);
+    put_two(to + TAIL, load(old + TAIL), r->escapes);
+}
+
 /* The reader after a whole frame: its head, the frame's bytes, and behind them those that it had. */
 ALWAYS void put_reader(uint8_t *to, const nx584_reader *r, const scanned *s)
 {
@@ -537,7 +549,7 @@ ALWAYS void put_reader(uint8_t *to, const nx584_reader *r, const scanned *s)
     two high = {f[1] >> (64 - 8 * HEAD) | f[2] << 8 * HEAD, f[2] >> (64 - 8 * HEAD)};
     put_over(to, (bytes16)low, old, where);
     put_over(to + 16, (bytes16)high, old + 16, where + 16);
-    memcpy(to + 32, old + 32, sizeof *r - 32);
+    put_from(to, r, 32);
 }
 
 /* What was read: the used bytes, some bits of numbers, the frame's length byte and its message. */
@@ -546,12 +558,12 @@ ALWAYS void put_rest(uint8_t *to, const scanned *s, uint64_t numbers, unsigned b
     const uint64_t *f = s->body.w;
     put_two(to, s->used, numbers | f[0] << bits);
     put_two(to + 16, f[0] >> (64 - bits) | f[1] << bits, f[1] >> (64 - bits) | f[2] << bits);
-    memset(to + 32, 0, sizeof(nx584_reading) - sizeof(nx584_reader) - 32);
+    memset(to + 32, 0, sizeof(nx584_reading) - REST - 32);
 }
 
 ALWAYS void put_reading(nx584_reading *a, const scanned *s)
 {
-    _Static_assert(sizeof *a == 536 && offsetof(nx584_reading, length) == 274, "an answer's words");
+    _Static_assert(sizeof *a == 544 && offsetof(nx584_reading, length) == REST + 10, "an answer's words");
     put_rest((uint8_t *)&a->used, s, s->verdict | s->type << 8, 16);
 }
 
@@ -591,6 +603,8 @@ ALWAYS int take_one(const nx584_reader *r, unsigned *c, uint64_t *head, unsigned
         if (held + 1 == end || *c == BINARY_START)
             return 0;
         if (mode == ESCAPED) {
+            if (is_bad_escape(r, (uint8_t)*c))
+                return 0;
             *c ^= 0x20;
             mode = IN_FRAME;
         } else {
@@ -615,14 +629,12 @@ ALWAYS int read_one(nx584_reading *a, const nx584_reader *from, unsigned c)
     if (!take_one(from, &c, &head, &is_held))
         return 0;
     size_t at = HEAD + from->held, row = at / 16 * 16;
-    if (row > sizeof *from - 16)
-        row = sizeof *from - 16;
     two begin = {head, 0};
     put_over(to, (bytes16)begin, old, first(HEAD));
-    memcpy(to + 16, old + 16, sizeof *from - 16);
+    put_from(to, from, 16);
     put_over(to + row, (bytes16){0} + (uint8_t)c, to + row, single + (is_held ? 15 - (at - row) : 16));
-    put_two(to + sizeof *from, 1, NX584_NONE);
-    memset(to + sizeof *from + 16, 0, sizeof *a - sizeof *from - 16);
+    put_two(to + REST, 1, NX584_NONE);
+    memset(to + REST + 16, 0, sizeof *a - REST - 16);
     return 1;
 }
 
@@ -887,7 +899,7 @@ nx584_overview nx584_view(const uint8_t *table, size_t table_len)
 
 ALWAYS void put_hearing(nx584_hearing *h, const scanned *s, uint8_t *table)
 {
-    _Static_assert(sizeof *h == 536 && offsetof(nx584_hearing, length) == 275, "an answer's words");
+    _Static_assert(sizeof *h == 544 && offsetof(nx584_hearing, length) == REST + 11, "an answer's words");
     uint64_t reply = nx584_reply((uint8_t)s->verdict, (uint8_t)s->type);
     if (s->verdict == 0) {
         uint8_t frame[WORDS];

@@ -11,12 +11,12 @@ static uint64_t mix_reading(uint64_t sum, const nx584_reading *a)
     return mix(sum, a->used << 24 | (uint64_t)a->verdict << 16 | a->length << 8 | a->message[0]);
 }
 
-uint64_t loop_read(uint8_t framing, const uint8_t *bytes, size_t length, size_t piece)
+uint64_t loop_read(uint8_t framing, uint8_t escapes, const uint8_t *bytes, size_t length, size_t piece)
 {
     nx584_reading a;
     uint64_t sum = 0;
     const uint8_t *end = bytes + length;
-    a.reader = nx584_fresh(framing);
+    a.reader = escapes == NX584_STRICT ? nx584_fresh(framing) : nx584_fresh_lenient(framing);
     while (bytes < end) {
         const uint8_t *stop = (size_t)(end - bytes) < piece ? end : bytes + piece;
         while (bytes < stop) {

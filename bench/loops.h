@@ -11,8 +11,9 @@ typedef struct {
 } messages;
 
 /* Each loop gives a number made from every answer, by which runs are compared. A read is handed at most
- * `piece` bytes, and what it leaves unused before any more. */
-uint64_t loop_read(uint8_t framing, const uint8_t *bytes, size_t length, size_t piece);
+ * `piece` bytes, and what it leaves unused before any more; its reader has the rule `escapes`, all others are
+ * strict. */
+uint64_t loop_read(uint8_t framing, uint8_t escapes, const uint8_t *bytes, size_t length, size_t piece);
 uint64_t loop_step(uint8_t framing, const uint8_t *bytes, size_t length);
 uint64_t loop_write(uint8_t framing, const messages *list);
 uint64_t loop_apply(uint8_t *table, const messages *list);

@@ -1,5 +1,6 @@
 /* The plain program that the bench measures nxread against, over nx584.h: linked with the plain C or
- * with the plain Rust. It reads a binary capture on standard input and writes its report. */
+ * with the plain Rust. It reads a binary capture on standard input, by the old rule of escapes, and writes its
+ * report. */
 #include "nx584.h"
 
 #include <unistd.h>
@@ -64,7 +65,7 @@ int main(void)
     while (length < CAPTURE && (got = read(0, capture + length, CAPTURE - length)) > 0)
         length += (size_t)got;
     nx584_hearing a;
-    a.reader = nx584_fresh(0);
+    a.reader = nx584_fresh_lenient(0);
     while (at < length) {
         a = nx584_hear(a.reader, table, sizeof table, capture + at, length - at);
         at += a.used;

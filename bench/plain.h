@@ -59,7 +59,7 @@ uint8_t nx584_reply(uint8_t verdict, uint8_t type)
     unsigned number = type & 0x3F;
     if (verdict == 6 || verdict == 8)
         return 0x1F;
-    if (verdict >= 1 && verdict <= 7)
+    if ((verdict >= 1 && verdict <= 7) || verdict == 15)
         return 0x1E;
     if (verdict != 0 || (type & 0x40) || lengths[number] == 0)
         return 0;
@@ -75,6 +75,12 @@ uint8_t nx584_reply(uint8_t verdict, uint8_t type)
 nx584_reader nx584_fresh(uint8_t framing)
 {
     nx584_reader r = {.framing = framing != 0};
+    return r;
+}
+
+nx584_reader nx584_fresh_lenient(uint8_t framing)
+{
+    nx584_reader r = {.framing = framing != 0, .escapes = NX584_LENIENT};
     return r;
 }
 
@@ -98,6 +104,12 @@ static void settle(nx584_reader *r)
         r->mode = IN_FRAME;
     if (r->mode != DIGIT_PENDING)
         r->digit = 0;
+}
+
+/* Of a byte after a 7Dh, no start byte: a writer escapes 7Eh and 7Dh and nothing else. */
+static int is_bad_escape(const nx584_reader *r, uint8_t byte)
+{
+    return r->escapes == NX584_STRICT && byte != (BINARY_START ^ 0x20) && byte != (ESCAPE ^ 0x20);
 }
 
 /* ---- questions of a table; a refused one is all zero but for its number */

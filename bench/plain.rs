@@ -3,7 +3,7 @@
 
 use std::slice;
 
-const VERSION: u32 = 3;
+const VERSION: u32 = 4;
 const LONGEST: usize = 255;
 /// Of the 41 messages, and so of what is written and handed out.
 const LONGEST_GOOD: usize = 18;
@@ -11,6 +11,8 @@ const TABLE_BYTES: usize = 2132;
 const SLOTS: usize = 8;
 const LONGEST_COMMAND: usize = 13;
 const NONE: u8 = 255;
+const STRICT: u8 = 0;
+const LENIENT: u8 = 1;
 
 const BINARY_START: u8 = 0x7E;
 const ESCAPE: u8 = 0x7D;
@@ -42,6 +44,7 @@ pub struct Reader {
     digit: u8,
     held: u16,
     bytes: [u8; LONGEST + 3],
+    escapes: u8,
 }
 
 #[repr(C)]
@@ -198,6 +201,11 @@ fn sums(bytes: &[u8]) -> (u8, u8) {
 // ---- reader
 
 impl Reader {
+    fn fresh(framing: u8, escapes: u8) -> Reader {
+        let framing = u8::from(framing != 0);
+        Reader { framing, mode: SKIPPING, digit: 0, held: 0, bytes: [0; LONGEST + 3], escapes }
+    }
+
     fn is_sound(&self) -> bool {
         if self.mode > DIGIT_PENDING || (self.mode == DIGIT_PENDING && self.digit > 15) {
             return false;
@@ -258,6 +266,9 @@ impl Reading {
             }
             if mode == ESCAPED {
                 byte ^= 0x20;
+                if self.reader.escapes == STRICT && !matches!(byte, BINARY_START | ESCAPE) {
+                    return self.decided(i + 1, 15);
+                }
                 mode = IN_FRAME;
             } else if byte == ESCAPE {
                 mode = ESCAPED;
@@ -405,7 +416,7 @@ fn write(message: &[u8], framing: u8, out: &mut [u8], place: usize) -> Result<us
 fn reply(verdict: u8, type_byte: u8) -> u8 {
     match verdict {
         6 | 8 => 0x1F,
-        1..=7 => 0x1E,
+        1..=7 | 15 => 0x1E,
         0 if length_of(type_byte) != 0 => match type_byte & 0x3F {
             0x20..=0x3F => 0x1F,
             0x1C..=0x1F => 0,
@@ -704,7 +715,12 @@ unsafe fn lent_mut<'a, T>(bytes: *mut T, length: usize) -> &'a mut [T] {
 
 #[no_mangle]
 pub extern "C" fn nx584_fresh(framing: u8) -> Reader {
-    Reader { framing: u8::from(framing != 0), mode: SKIPPING, digit: 0, held: 0, bytes: [0; LONGEST + 3] }
+    Reader::fresh(framing, STRICT)
+}
+
+#[no_mangle]
+pub extern "C" fn nx584_fresh_lenient(framing: u8) -> Reader {
+    Reader::fresh(framing, LENIENT)
 }
 
 #[no_mangle]
