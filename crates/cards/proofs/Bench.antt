@@ -13,8 +13,8 @@ use Rattle.standard.specs.Table.{fresh, storesFrom, writesOf, doneAll, applyRef
 use Rattle.standard.specs.Overview.{heardOf, faultedOf}
 use Rattle.standard.specs.Report.{reportOn, reportOf}
 use Rattle.cards.specs.Text.{characters}
-use Rattle.cards.specs.Cards.{marked, ours, cards, toldOf}
-use Rattle.cards.specs.Printed.{capture, printed, ofLines}
+use Rattle.cards.specs.Cards.{noisy, marked, ours, cards, toldOf}
+use Rattle.cards.specs.Printed.{capture, printed, printedNoisy, ofLines}
 
 pub bench : (rule : Escapes) → map (λ c. toldOf rule (c .line)) (cards rule) ≡ map (λ c. c .told) (cards rule)
 unfolding marked ours flatMap upTo total prefixes sumsOf lengthFor valuesOk unstuff digitsOf pairs wholeOf replyOf fresh
@@ -22,8 +22,14 @@ unfolding marked ours flatMap upTo total prefixes sumsOf lengthFor valuesOk unst
 bench Strict = refl
 bench Lenient = refl
 
--- card 13, the only one that says what is printed
+-- card 13, the only one of the paper that says what is printed
 pub report : reportOf capture ≡ ofLines printed
 unfolding ofLines characters reportOn heardOf faultedOf flatMap upTo total prefixes sumsOf lengthFor valuesOk unstuff
     wholeOf replyOf fresh storesFrom writesOf doneAll applyRefusal appliedTo tableAfter
 report = refl
+
+-- nxread reads by the old rule
+pub report-noisy : reportOf noisy ≡ ofLines printedNoisy
+unfolding ofLines characters reportOn heardOf faultedOf flatMap upTo total prefixes sumsOf lengthFor valuesOk unstuff
+    wholeOf replyOf fresh storesFrom writesOf doneAll applyRefusal appliedTo tableAfter
+report-noisy = refl

@@ -1,5 +1,5 @@
--- Document 01, "Bench cards": those marked P, two of ours for the rules of escapes, and what `standard` says of the bytes
--- of each. Assumes nothing.
+-- Document 01, "Bench cards": those marked P, two of ours for the rules of escapes, and what `standard` says of the
+-- bytes of each. Assumes nothing.
 use Prim.Native.Nat.{ℕ, suc, _+_}
 use mathlib.Core.Bool.{cond}
 use mathlib.Core.List.{List, [], _∷_, _++_, flatMap, map}

@@ -11,10 +11,13 @@ use lib.Dec.{eqb}
 use lib.ListN.{length, drop}
 use Rattle.standard.specs.declared.Framing.{Framing}
 use Rattle.standard.specs.declared.Escapes.{Escapes}
+use Rattle.standard.specs.declared.Escapes.the-variants.{Strict, Lenient}
 use Rattle.standard.specs.Messages.{longest}
 use Rattle.standard.specs.Judge.{Handed}
+use Rattle.standard.specs.Stream.{streamNeeded}
 use Rattle.standard.specs.Table.{tableBytes, fresh, appliedTo, tableAfter}
 use Rattle.standard.proofs.Applied.{applied-length}
+use Rattle.standard.proofs.Strict.{handed-alike}
 use Rattle.reader.specs.declared.Reader.{Reader}
 use Rattle.reader.specs.Read.{freshReader, Given, readOf}
 use Rattle.reader.specs.Calls.{joined, handedBefore, callsOf, drive, Calls}
@@ -86,7 +89,8 @@ hearings-calls (suc n) r t (bs ∷ reads) w =
     ∙ also-as t said (callsOf n next left) (one-said r bs))
 
 -- the caller that hands in what is left before the next read
-pub demand3 : (rule : Escapes) (f : Framing) (reads : List (List ℕ)) → hearAll (freshReader rule f) fresh reads ≡ streamHeard rule f (joined reads)
+pub demand3 : (rule : Escapes) (f : Framing) (reads : List (List ℕ))
+    → hearAll (freshReader rule f) fresh reads ≡ streamHeard rule f (joined reads)
 unfolding hearAll drive
 demand3 rule f reads =
     hearings-calls (length (joined reads) + length reads) (freshReader rule f) fresh reads (fresh-fit rule f)
@@ -121,3 +125,9 @@ pub demand3-any-caller : (rule : Escapes) (f : Framing) {reads : List (List ℕ)
 demand3-any-caller rule f {reads} {heard} c =
     let w = calling c (fresh-fit rule f) in
     w .heard-as ∙ ap (heardAs fresh) (any-caller rule f (w .calls))
+
+-- STRICTNESS COSTS NOBODY: where every escape was needed, the verdicts, the replies and the table are those of the old
+-- rule
+pub heard-alike : (f : Framing) (stream : List ℕ) → streamNeeded f stream ≡ true
+    → streamHeard Strict f stream ≡ streamHeard Lenient f stream
+heard-alike f stream h = ap (heardAs fresh) (handed-alike f stream h)

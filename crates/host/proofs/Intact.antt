@@ -47,19 +47,23 @@ amid rule f p q h =
     ∙ ap (thenHeard (heardBefore rule f p)) (heard-one (tableAfter fresh before) h (handedOf rule f q))
 
 -- EVERY PART THAT IS DECIDED, whichever its verdict; it may go on after the byte that decides
-module _ (rule : Escapes) (f : Framing) (p part q : List ℕ) (h : Handed) (reads : List (List ℕ)) (none : among (startOf f) part ≡ false)
+module _ (rule : Escapes) (f : Framing) (p part q : List ℕ) (h : Handed) (reads : List (List ℕ))
+    (none : among (startOf f) part ≡ false)
     (e : judge rule f (startOf f ∷ part) ≡ decided h) (j : joined reads ≡ p ++ (startOf f ∷ part ++ q)) where
   stream : streamHeard rule f (joined reads) ≡ heardAmid rule f p h q
-  stream = ap (streamHeard rule f) j ∙ ap (heardAs fresh) (handed-amid-part rule f p part q h none e) ∙ amid rule f p q h
+  stream =
+      ap (streamHeard rule f) j ∙ ap (heardAs fresh) (handed-amid-part rule f p part q h none e) ∙ amid rule f p q h
 
   pub intact : hearAll (freshReader rule f) fresh reads ≡ heardAmid rule f p h q
   intact = demand3 rule f reads ∙ stream
 
-  pub intact-any-caller : {heard : Heard} → Hearings (freshReader rule f) fresh reads heard → heard ≡ heardAmid rule f p h q
+  pub intact-any-caller : {heard : Heard} → Hearings (freshReader rule f) fresh reads heard
+      → heard ≡ heardAmid rule f p h q
   intact-any-caller c = demand3-any-caller rule f c ∙ stream
 
 -- THE FRAME OF EVERY MESSAGE OF 1 TO 255 BYTES has the verdict of the message's own tests
-pub every-frame : (rule : Escapes) (f : Framing) (p m q : List ℕ) (reads : List (List ℕ)) → lengthOk (length m) ≡ true → Bytes m
+pub every-frame : (rule : Escapes) (f : Framing) (p m q : List ℕ) (reads : List (List ℕ)) → lengthOk (length m) ≡ true
+    → Bytes m
     → joined reads ≡ p ++ (frameOf f m ++ q)
     → hearAll (freshReader rule f) fresh reads ≡ heardAmid rule f p (handing (checkOf m) m) q
 every-frame rule f p m q reads h b j =
@@ -69,7 +73,8 @@ every-frame rule f p m q reads h b j =
     ∙ amid rule f p q (handing (checkOf m) m)
 
 -- AN UNKNOWN ONE, HOWEVER LONG, IS REJECTED WITH 1Fh: its verdict is 6, and the table stays
-pub unknown-rejected : (rule : Escapes) (f : Framing) (p m q : List ℕ) (reads : List (List ℕ)) → lengthOk (length m) ≡ true → Bytes m
+pub unknown-rejected : (rule : Escapes) (f : Framing) (p m q : List ℕ) (reads : List (List ℕ))
+    → lengthOk (length m) ≡ true → Bytes m
     → lengthFor (byte 1 m) ≡ 0 → joined reads ≡ p ++ (frameOf f m ++ q)
     → let before = heardBefore rule f p in
     hearAll (freshReader rule f) fresh reads

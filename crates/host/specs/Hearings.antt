@@ -100,4 +100,5 @@ heardBefore rule f p = streamHeard rule f (p ++ (startOf f ∷ []))
 abbrev pub heardAmid : Escapes → Framing → List ℕ → Handed → List ℕ → Heard
 heardAmid rule f p h q =
     let t = heardBefore rule f p .table in
-    thenHeard (heardBefore rule f p) (alsoHeard (h ∷ []) (replyFor h) (heardAs (tableAfter t (h ∷ [])) (handedOf rule f q)))
+    thenHeard (heardBefore rule f p)
+    (alsoHeard (h ∷ []) (replyFor h) (heardAs (tableAfter t (h ∷ [])) (handedOf rule f q)))

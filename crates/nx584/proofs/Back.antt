@@ -107,9 +107,11 @@ record Same (framing mode digit : ℕ) (m : Mode) : Type 0 where
   of-mode : modeNumber m ≡ mode
   of-digit : digitNumber m ≡ digit
 
-settled-numbers : (framing mode digit : ℕ) → framing ≤ 1 → mode ≤ 3 → (mode ≡ 2 → framing ≡ 0) → (mode ≡ 3 → framing ≡ 1)
+settled-numbers : (framing mode digit : ℕ) → framing ≤ 1 → mode ≤ 3 → (mode ≡ 2 → framing ≡ 0)
+    → (mode ≡ 3 → framing ≡ 1)
     → ((mode ≡ 3 → ⊥) → digit ≡ 0) → Same framing mode digit (modeFor (framingFor framing) mode digit)
-settled-numbers zero zero d f m e g z = record { of-framing = refl; of-mode = refl; of-digit = sym (z (λ x. omega arith)) }
+settled-numbers zero zero d f m e g z =
+    record { of-framing = refl; of-mode = refl; of-digit = sym (z (λ x. omega arith)) }
 settled-numbers zero (suc zero) d f m e g z =
     record { of-framing = refl; of-mode = refl; of-digit = sym (z (λ x. omega arith)) }
 settled-numbers zero (suc (suc zero)) d f m e g z =

@@ -179,7 +179,8 @@ pub c-demand3 : (rule : Escapes) (framing : ℕ) (reads : List (List ℕ))
     → cHearAll (cFresh rule framing) fresh reads ≡ streamHeard rule (framingFor framing) (joined reads)
 unfolding cHearAll drive
 c-demand3 rule framing reads =
-    hearings-same (escapesNumber rule) (length (joined reads) + length reads) (freshReader rule (framingFor framing)) fresh
+    hearings-same (escapesNumber rule) (length (joined reads) + length reads)
+    (freshReader rule (framingFor framing)) fresh
     reads (escapes-back rule) refl fresh-whole
     ∙ ap (heardAs fresh) (reads-are-parts rule (framingFor framing) reads)
 

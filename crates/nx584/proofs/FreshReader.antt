@@ -1,6 +1,6 @@
--- Demand 2 over the reader's own `read`: a fresh reader of either rule on a written frame, whatever follows it, gives verdict 0 and
--- the message, and uses exactly the frame's bytes. By the used-byte rule: the frame hands out its message, and no
--- shorter beginning of it hands out anything. Assumes nothing.
+-- Demand 2 over the reader's own `read`: a fresh reader of either rule on a written frame, whatever follows it, gives
+-- verdict 0 and the message, and uses exactly the frame's bytes. By the used-byte rule: the frame hands out its
+-- message, and no shorter beginning of it hands out anything. Assumes nothing.
 use Prim.Native.Nat.{ℕ, _+_, _<_}
 use native.Mathlib.Omega.{arith}
 use mathlib.Core.Path.{_≡_, refl, sym, ap, ap₂, _∙_}
@@ -29,7 +29,8 @@ neither true b e = e
 neither false b e = refl
 
 -- one part, which is unfinished, hands out nothing
-alone : (rule : Escapes) (f : Framing) (l : List ℕ) → among (startOf f) l ≡ false → judge rule f (startOf f ∷ l) ≡ unfinished
+alone : (rule : Escapes) (f : Framing) (l : List ℕ) → among (startOf f) l ≡ false
+    → judge rule f (startOf f ∷ l) ≡ unfinished
     → handedOf rule f (startOf f ∷ l) ≡ []
 alone rule f l a u =
     let start = startOf f in
@@ -44,12 +45,14 @@ nil-front [] b e = refl
 nil-front (h ∷ a) b e = absurd (cons≢nil e)
 
 -- a beginning of a stream that hands out nothing hands out nothing
-front-none : (rule : Escapes) (f : Framing) (k : ℕ) (l : List ℕ) → handedOf rule f l ≡ [] → handedOf rule f (take k l) ≡ []
+front-none : (rule : Escapes) (f : Framing) (k : ℕ) (l : List ℕ) → handedOf rule f l ≡ []
+    → handedOf rule f (take k l) ≡ []
 front-none rule f k l e =
     let s : State = record { mode = Skipping f; held = [] } in
     let front = take k l in
     nil-front (handedOf rule f front) (run rule (after rule s front) (drop k l))
-    (ap (λ (x : List Handed). x ++ run rule (after rule s front) (drop k l)) (sym (run-parts rule f [] front (tt, refl)))
+    (ap (λ (x : List Handed). x ++ run rule (after rule s front) (drop k l))
+    (sym (run-parts rule f [] front (tt, refl)))
     ∙ sym (run-append rule s front (drop k l))
     ∙ ap (run rule s) (take-append-drop k l)
     ∙ run-parts rule f [] l (tt, refl)

@@ -42,8 +42,8 @@ use Rattle.nx584.specs.declared.CHearing.{CHearing}
 use Rattle.nx584.specs.declared.CWritten.{CWritten}
 use Rattle.nx584.specs.declared.CGroup.{CGroup}
 use Rattle.nx584.specs.declared.COverview.{COverview}
-use Rattle.nx584.specs.Boundary.{framingFor, escapesFor, modeFor, readerFor, cFresh, soundC, padded, CGiven, cRefused}
-use Rattle.nx584.specs.Boundary.{cTook, cRead, cReading}
+use Rattle.nx584.specs.Boundary.{framingFor, escapesFor, modeFor, readerFor, cFresh, soundC, padded, CGiven}
+use Rattle.nx584.specs.Boundary.{cRefused, cTook, cRead, cReading}
 use Rattle.nx584.specs.Boundary.{cHeard, withReply, cHearing, cLeft, cWritten, cGroup, cOverview}
 use Rattle.nx584.specs.declared.CSending.{CSending}
 use Rattle.nx584.specs.Line.{cAnswer}
@@ -137,12 +137,14 @@ pub escapes-stay : (c : CReader) (t bs : List ℕ)
 unfolding cRead cHeard
 escapes-stay c t bs = (of-read (soundC c), of-hear (isTable t) (soundC c))
   where
-    of-read : (s : Bool) → cond s (cTook (c .escapes) (readOf (readerFor c) bs)) (cRefused c 12) .reader .escapes ≡ c .escapes
+    of-read : (s : Bool)
+        → cond s (cTook (c .escapes) (readOf (readerFor c) bs)) (cRefused c 12) .reader .escapes ≡ c .escapes
     of-read true = refl
     of-read false = refl
 
     of-hear : (t s : Bool)
-        → cond t (cond s (cTook (c .escapes) (readOf (readerFor c) bs)) (cRefused c 12)) (cRefused c 11) .reader .escapes
+        → cond t (cond s (cTook (c .escapes) (readOf (readerFor c) bs)) (cRefused c 12))
+        (cRefused c 11) .reader .escapes
         ≡ c .escapes
     of-hear true true = refl
     of-hear true false = refl

@@ -52,7 +52,8 @@ pub c-sound : (c : CReader) → soundC c ≡ true → soundReader (readerFor c) 
 unfolding soundC
 c-sound c h = both-true (modeOk (c .mode) (c .digit)) (soundReader (readerFor c)) h .1
 
-pub read-took : (c : CReader) (bs : List ℕ) → soundC c ≡ true → cRead c bs ≡ cTook (c .escapes) (readOf (readerFor c) bs)
+pub read-took : (c : CReader) (bs : List ℕ) → soundC c ≡ true
+    → cRead c bs ≡ cTook (c .escapes) (readOf (readerFor c) bs)
 unfolding cRead
 read-took c bs h = rw h
 

@@ -115,7 +115,8 @@ scans-sound c bs reader used said h size w =
       says =
           said-scanned (c .escapes) reader used said (omega arith)
           ∙ ap cReading
-          (took-c (c .escapes) (readOf (readerFor c) bs) reader used said (w .gives) (w .uses) ∙ sym (read-took c bs h));
+          (took-c (c .escapes) (readOf (readerFor c) bs) reader used said (w .gives) (w .uses)
+          ∙ sym (read-took c bs h));
       few = rw (length-said said) fits;
       sized = size;
     }

@@ -22,6 +22,8 @@ use Rattle.nx584.specs.declared.CSending.{CSending}
 use Rattle.nx584.specs.Line.{cAnswer}
 use Rattle.nx584.proofs.nx584_fresh.Kinds as fresh-kinds
 use Rattle.nx584.proofs.nx584_fresh.Reads as fresh
+use Rattle.nx584.proofs.nx584_fresh_lenient.Kinds as lenient-kinds
+use Rattle.nx584.proofs.nx584_fresh_lenient.Reads as lenient
 use Rattle.nx584.proofs.nx584_read.Kinds as read-kinds
 use Rattle.nx584.proofs.nx584_read.Reads as read
 use Rattle.nx584.proofs.nx584_step.Kinds as step-kinds
@@ -52,6 +54,11 @@ pub nx584-fresh-unique : (κs : Lfts 0) (a : Dens κs fresh-kinds.ps)
     (e : AtExit (endedOf 0 fresh-kinds.ps fresh-kinds.r) κs)
     (x y : resT fresh-kinds.r κs .Denot) → fresh.Post κs a x e → fresh.Post κs a y e → x ≡ y
 nx584-fresh-unique κs a e x y p q = p ∙ sym q
+
+pub nx584-fresh-lenient-unique : (κs : Lfts 0) (a : Dens κs lenient-kinds.ps)
+    (e : AtExit (endedOf 0 lenient-kinds.ps lenient-kinds.r) κs)
+    (x y : resT lenient-kinds.r κs .Denot) → lenient.Post κs a x e → lenient.Post κs a y e → x ≡ y
+nx584-fresh-lenient-unique κs a e x y p q = p ∙ sym q
 
 pub nx584-read-unique : (κs : Lfts 1) (a : Dens κs read-kinds.ps)
     (e : AtExit (endedOf 1 read-kinds.ps read-kinds.r) κs)

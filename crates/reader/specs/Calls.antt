@@ -50,8 +50,8 @@ pub data Reached (rule : Escapes) (f : Framing) : List ℕ → Reader → Type 0
   read : {stream : List ℕ} {r : Reader} (bs : List ℕ) → Reached rule f stream r
       → Reached rule f (stream ++ take (readOf r bs .used) bs) (readOf r bs .reader)
 
--- a stream that leads to a mode and the bytes held, by either rule of escapes: none between frames; in a frame its start, those bytes as they are
--- sent, and what is pending
+-- a stream that leads to a mode and the bytes held, by either rule of escapes: none between frames; in a frame its
+-- start, those bytes as they are sent, and what is pending
 abbrev pub leadTo : Mode → List ℕ → List ℕ
 leadTo (Skipping f) held = []
 leadTo (Open f) held = startOf f ∷ coding f held

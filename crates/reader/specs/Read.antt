@@ -47,8 +47,8 @@ soundReader r = soundWith (r .mode) (r .held) (getD (r .bytes) 0 0)
 abbrev pub freshReader : Escapes → Framing → Reader
 freshReader rule f = record { mode = Skipping f; held = 0; bytes = replicate (longest + 3) 0; escapes = rule }
 
--- the reader after a read or a byte: the frame's bytes stand at the beginning of the array, its other bytes stay, and so
--- does its rule
+-- the reader after a read or a byte: the frame's bytes stand at the beginning of the array, its other bytes stay, and
+-- so does its rule
 abbrev pub readerAfter : Reader → State → List ℕ → Reader
 readerAfter r next kept = record {
   mode = next .mode;

@@ -103,7 +103,8 @@ pairs-more (h ∷ []) es = record { extra = pairs (h ∷ es); is = refl }
 pairs-more (h ∷ l ∷ ds) es = onward-cons _ (pairs ds) (pairs (ds ++ es)) (pairs-more ds es)
 
 recovered-more : (rule : Escapes) (f : Framing) (a more : List ℕ)
-    → Halted (recovered rule f a) (recovered rule f (a ++ more)) ⊎ Further (recovered rule f a) (recovered rule f (a ++ more))
+    → Halted (recovered rule f a) (recovered rule f (a ++ more))
+    ⊎ Further (recovered rule f a) (recovered rule f (a ++ more))
 recovered-more rule Binary a more = unstuff-more rule false a more
 recovered-more rule Ascii a more = go (digits-more a more)
   where
@@ -211,6 +212,8 @@ handed-part rule f part q h clear e =
 -- WHATEVER STANDS BEFORE AND AFTER A PART THAT IS DECIDED: the bytes before are as if its start byte were their last
 pub handed-amid-part : (rule : Escapes) (f : Framing) (p part q : List ℕ) (h : Handed) → among (startOf f) part ≡ false
     → judge rule f (startOf f ∷ part) ≡ decided h
-    → handedOf rule f (p ++ (startOf f ∷ part ++ q)) ≡ handedOf rule f (p ++ (startOf f ∷ [])) ++ (h ∷ handedOf rule f q)
+    → handedOf rule f (p ++ (startOf f ∷ part ++ q))
+    ≡ handedOf rule f (p ++ (startOf f ∷ [])) ++ (h ∷ handedOf rule f q)
 handed-amid-part rule f p part q h clear e =
-    handed-append rule f p (part ++ q) ∙ ap (λ l. handedOf rule f (p ++ (startOf f ∷ [])) ++ l) (handed-part rule f part q h clear e)
+    handed-append rule f p (part ++ q)
+    ∙ ap (λ l. handedOf rule f (p ++ (startOf f ∷ [])) ++ l) (handed-part rule f part q h clear e)

@@ -146,7 +146,8 @@ recover-sent Strict b l escape-escaped q = refl
 recover-sent Lenient b l escape-escaped q = refl
 recover-sent rule b l (as-it-is b′ e k) q = rw k
 
-recover-one : (rule : Escapes) (f : Framing) (b : ℕ) (q : List ℕ) → b < 256 → recovered rule f (coded f b ++ q) ≡ also b (recovered rule f q)
+recover-one : (rule : Escapes) (f : Framing) (b : ℕ) (q : List ℕ) → b < 256
+    → recovered rule f (coded f b ++ q) ≡ also b (recovered rule f q)
 unfolding digitsOf pairs
 recover-one rule Binary b q h = recover-sent rule b (stuffed b) (sent b) q
 recover-one rule Ascii b q h =
@@ -158,7 +159,8 @@ abbrev pub alsoAll : List ℕ → Recovered → Recovered
 alsoAll bs r = record { bytes = bs ++ r .bytes; fault = r .fault }
 
 -- WHAT WAS CODED IS RECOVERED, whatever follows it
-pub recovers : (rule : Escapes) (f : Framing) (bs q : List ℕ) → Bytes bs → recovered rule f (coding f bs ++ q) ≡ alsoAll bs (recovered rule f q)
+pub recovers : (rule : Escapes) (f : Framing) (bs q : List ℕ) → Bytes bs
+    → recovered rule f (coding f bs ++ q) ≡ alsoAll bs (recovered rule f q)
 unfolding coding flatMap
 recovers rule f [] q h = refl
 recovers rule f (b ∷ bs) q h =

@@ -85,7 +85,8 @@ judge-start rule Ascii = refl
 
 -- what parts hand out, where another follows: as if it were only a start
 hands-append : (rule : Escapes) (f : Framing) (ps : List (List ℕ)) (part : List ℕ) (later : List (List ℕ))
-    → partsHand rule f (ps ++ (part ∷ later)) ≡ partsHand rule f (ps ++ ((startOf f ∷ []) ∷ [])) ++ partsHand rule f (part ∷ later)
+    → partsHand rule f (ps ++ (part ∷ later))
+    ≡ partsHand rule f (ps ++ ((startOf f ∷ []) ∷ [])) ++ partsHand rule f (part ∷ later)
 hands-append rule f [] part later = rw (judge-start rule f)
 hands-append rule f (p ∷ ps) part later =
     let first = ps ++ ((startOf f ∷ []) ∷ []) in
@@ -98,7 +99,8 @@ parts-start x q = rw (eq-eqb x x refl)
 
 -- A STREAM PARTS AT A START BYTE: that byte ends what came before, and what comes from it on does not depend on that
 pub handed-append : (rule : Escapes) (f : Framing) (p q : List ℕ)
-    → handedOf rule f (p ++ (startOf f ∷ q)) ≡ handedOf rule f (p ++ (startOf f ∷ [])) ++ handedOf rule f (startOf f ∷ q)
+    → handedOf rule f (p ++ (startOf f ∷ q))
+    ≡ handedOf rule f (p ++ (startOf f ∷ [])) ++ handedOf rule f (startOf f ∷ q)
 handed-append rule f p q =
     let x = startOf f in
     ap (partsHand rule f) (parts-append x p q ∙ ap (λ (l : List (List ℕ)). partsOf x p ++ l) (parts-start x q))
@@ -361,9 +363,11 @@ record GoodSaid (rule : Escapes) (f : Framing) (after m : List ℕ) : Type 0 whe
   bytes : recovered rule f after .bytes ≡ bodyOf m ++ more
   end : ended f after (length m) rest ≡ decided (handing 0 m)
 
-good-said : (rule : Escapes) (f : Framing) (after m : List ℕ) → judgeAfter rule f after ≡ decided (handing 0 m) → GoodSaid rule f after m
+good-said : (rule : Escapes) (f : Framing) (after m : List ℕ) → judgeAfter rule f after ≡ decided (handing 0 m)
+    → GoodSaid rule f after m
 good-said rule f after m e =
-    let said = end-said (recovered rule f after .bytes) (recovered rule f after .fault) (ended f after) m (fault-bad rule f after) e in
+    let said = end-said (recovered rule f after .bytes) (recovered rule f after .fault) (ended f after) m
+    (fault-bad rule f after) e in
     let L = said .L in
     let rest = said .rest in
     let whole = whole-said L rest m (ended-whole f after L rest m (said .said)) in
@@ -379,7 +383,8 @@ good-said rule f after m e =
     }
 
 -- what is handed out with verdict 0 is a good message
-pub good-check : (rule : Escapes) (f : Framing) (after m : List ℕ) → judgeAfter rule f after ≡ decided (handing 0 m) → checkOf m ≡ 0
+pub good-check : (rule : Escapes) (f : Framing) (after m : List ℕ) → judgeAfter rule f after ≡ decided (handing 0 m)
+    → checkOf m ≡ 0
 good-check rule f after m e = good-said rule f after m e .check
 
 -- the bytes after a start begin with the rest of a good message's frame

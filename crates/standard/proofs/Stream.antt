@@ -63,10 +63,12 @@ pub handed-every : (rule : Escapes) (f : Framing) (p m q : List ℕ) → lengthO
     ≡ handedOf rule f (p ++ (startOf f ∷ [])) ++ (handing (checkOf m) m ∷ handedOf rule f q)
 unfolding frameOf
 handed-every rule f p m q h b =
-    handed-amid-part rule f p (coding f (bodyOf m) ++ stopOf f) q (handing (checkOf m) m) (no-start f m) (judged rule f m h b)
+    handed-amid-part rule f p (coding f (bodyOf m) ++ stopOf f) q (handing (checkOf m) m) (no-start f m)
+    (judged rule f m h b)
 
 pub handed-amid : (rule : Escapes) (f : Framing) (p m q : List ℕ) → checkOf m ≡ 0 → Bytes m
-    → handedOf rule f (p ++ (frameOf f m ++ q)) ≡ handedOf rule f (p ++ (startOf f ∷ [])) ++ (handing 0 m ∷ handedOf rule f q)
+    → handedOf rule f (p ++ (frameOf f m ++ q))
+    ≡ handedOf rule f (p ++ (startOf f ∷ [])) ++ (handing 0 m ∷ handedOf rule f q)
 handed-amid rule f p m q h b =
     handed-every rule f p m q (good-length m h) b
     ∙ ap (λ (n : ℕ). handedOf rule f (p ++ (startOf f ∷ [])) ++ (handing n m ∷ handedOf rule f q)) h
@@ -78,10 +80,16 @@ one-each (decided h) later = refl
 one-each unfinished [] = refl
 one-each unfinished (part ∷ later) = refl
 
-parts-count : (rule : Escapes) (f : Framing) (ps : List (List ℕ)) → length (partsHand rule f ps) + lastOpen rule f ps ≡ length ps
+parts-count : (rule : Escapes) (f : Framing) (ps : List (List ℕ))
+    → length (partsHand rule f ps) + lastOpen rule f ps ≡ length ps
 parts-count rule f [] = refl
 parts-count rule f (p ∷ ps) =
-    omega (arith, length-append (partHands (judge rule f p) ps) (partsHand rule f ps), one-each (judge rule f p) ps, parts-count rule f ps)
+    omega (
+      arith,
+      length-append (partHands (judge rule f p) ps) (partsHand rule f ps),
+      one-each (judge rule f p) ps,
+      parts-count rule f ps,
+    )
 
 parts-starts : (x : ℕ) (bs : List ℕ) → length (partsOf x bs) ≡ startsOf x bs
 parts-starts x [] = refl

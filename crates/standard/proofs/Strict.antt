@@ -36,7 +36,8 @@ unstuff-alike true (b ∷ l) h =
 unstuff-alike false (b ∷ l) h =
     ap (λ (r : Recovered). cond (eqb b 0x7D) r (also b r)) (unstuff-alike (eqb b 0x7D) l h)
 
-pub recovered-alike : (f : Framing) (l : List ℕ) → escapesNeeded f l ≡ true → recovered Strict f l ≡ recovered Lenient f l
+pub recovered-alike : (f : Framing) (l : List ℕ) → escapesNeeded f l ≡ true
+    → recovered Strict f l ≡ recovered Lenient f l
 recovered-alike Binary l h = unstuff-alike false l h
 recovered-alike Ascii l h = refl
 

@@ -109,7 +109,7 @@ pairs (h ∷ l ∷ ds) = (h * 16 + l) ∷ pairs ds
 abbrev pub noDigit : List ℕ → Option ℕ
 noDigit cs = cond (ltb (length (digitsOf cs)) (length cs)) (some 2) none
 
--- "In ASCII the rule has no effect"
+-- in ASCII the rule has no effect
 abbrev pub recovered : Escapes → Framing → List ℕ → Recovered
 recovered rule Binary after = unstuff rule false after
 recovered rule Ascii after = record { bytes = pairs (digitsOf after); fault = noDigit after }

@@ -64,7 +64,8 @@ pub record Turn (capture t₀ : List ℕ) (i : ℕ) (said : Said) (reply used : 
 -- ---- one call
 
 -- a call with bytes to read uses one
-moves-by : (stream bs : List ℕ) (used : ℕ) (said : List Handed) → Uses Lenient Binary stream bs used said → 0 < length bs
+moves-by : (stream bs : List ℕ) (used : ℕ) (said : List Handed) → Uses Lenient Binary stream bs used said
+    → 0 < length bs
     → 0 < used
 moves-by stream bs (suc n) said w h = omega arith
 moves-by stream bs zero said w h =

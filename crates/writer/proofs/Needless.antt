@@ -1,7 +1,6 @@
 -- By the old rule the condition of the second round trip is needed, of every part: one with a needless escape is never
--- what is written. And there are such parts: card 1 with its 1Dh sent as 7D 3D is read as that message at its last byte,
--- and is 15 by the strict rule.
--- Assumes nothing.
+-- what is written. And there are such parts: card 1 with its 1Dh sent as 7D 3D is read as that message at its last
+-- byte, and is 15 by the strict rule. Assumes nothing.
 use Prim.Native.Nat.{ℕ}
 use native.Mathlib.Omega.{arith}
 use mathlib.Core.Path.{_≡_, refl}

@@ -1,5 +1,6 @@
 -- Demand 2 over the promise of `write`: what it puts into the buffer is handed out again, and what was read is put
--- there byte for byte: by the strict rule always, by the old one exactly if its only escapes were needed. Assumes nothing.
+-- there byte for byte: by the strict rule always, by the old one exactly if its only escapes were needed. Assumes
+-- nothing.
 use Prim.Native.Nat.{ℕ, _+_, _-_, _≤_}
 use mathlib.Core.Path.{_≡_, refl, sym, ap, _∙_}
 use mathlib.Core.Bool.{Bool, true, false}
@@ -69,7 +70,8 @@ module _ (m : List ℕ) (f : Framing) (out : List ℕ) (place : ℕ) where
       ∙ laid-there out place (frameOf f m) h
 
   -- WHAT IS WRITTEN IS READ: where the answer is 0, the bytes that it speaks of hand out the message
-  pub written-read : (rule : Escapes) (a : Written) (after : List ℕ) → Bytes m → Wrote m f out place a after → a .number ≡ 0
+  pub written-read : (rule : Escapes) (a : Written) (after : List ℕ) → Bytes m → Wrote m f out place a after
+      → a .number ≡ 0
       → handedOf rule f (put a after) ≡ handing 0 m ∷ []
   unfolding writtenOf
   written-read rule a after b w z =
@@ -77,8 +79,8 @@ module _ (m : List ℕ) (f : Framing) (out : List ℕ) (place : ℕ) where
       let good = accepted none in
       ap (handedOf rule f) (put-frame a after w none (good .within)) ∙ write-then-read-one rule f m (good .check) b
 
-  -- WHAT IS READ IS WRITTEN: a part is put again byte for byte, wherever it fits; by the old rule one whose escapes were
-  -- needed
+  -- WHAT IS READ IS WRITTEN: a part is put again byte for byte, wherever it fits; by the old rule one whose escapes
+  -- were needed
   pub read-written : (rule : Escapes) (front : List ℕ) (last : ℕ) → HandsOut rule f front last m
       → comesBack rule f (front ++ (last ∷ [])) ≡ true
       → place ≤ length out → length (startOf f ∷ front ++ (last ∷ [])) ≤ length out - place

@@ -1,6 +1,7 @@
 -- Demand 2, both round trips, each over both framings and over the judgement of a stream. Writing and then reading
 -- hands out the message, among any other bytes, by either rule of escapes. Reading and then writing gives the part
--- again, by the strict rule always, and by the old one exactly if its only escapes were those for 7Eh and 7Dh. Assumes nothing.
+-- again, by the strict rule always, and by the old one exactly if its only escapes were those for 7Eh and 7Dh. Assumes
+-- nothing.
 use Prim.Native.Nat.{ℕ, zero, suc, _+_, _<_}
 use native.Mathlib.Omega.{arith}
 use mathlib.Core.Path.{_≡_, refl, sym, ap, ap₂, _∙_, subst}
@@ -38,7 +39,8 @@ inside f m = coding f (bodyOf m) ++ stopOf f
 -- WRITING, THEN READING: wherever a good message's frame stands in a stream, the message is handed out, after what the
 -- frame's start byte ends and before what follows
 pub write-then-read : (rule : Escapes) (f : Framing) (m p q : List ℕ) → checkOf m ≡ 0 → Bytes m
-    → handedOf rule f (p ++ (frameOf f m ++ q)) ≡ handedOf rule f (p ++ (startOf f ∷ [])) ++ (handing 0 m ∷ handedOf rule f q)
+    → handedOf rule f (p ++ (frameOf f m ++ q))
+    ≡ handedOf rule f (p ++ (startOf f ∷ [])) ++ (handing 0 m ∷ handedOf rule f q)
 write-then-read rule f m p q h b = handed-amid rule f p m q h b
 
 -- and so of a frame alone
@@ -107,7 +109,8 @@ cut a b l x y e =
     ∙ take-append-add b (y ∷ l) (length l)
 
 -- where the last byte decides, nothing stands behind the frame: the part would be decided without that byte
-nothing-behind : (rule : Escapes) (f : Framing) (front : List ℕ) (last : ℕ) (m tail : List ℕ) → judge rule f (startOf f ∷ front) ≡ unfinished
+nothing-behind : (rule : Escapes) (f : Framing) (front : List ℕ) (last : ℕ) (m tail : List ℕ)
+    → judge rule f (startOf f ∷ front) ≡ unfinished
     → checkOf m ≡ 0 → Bytes (bodyOf m) → front ++ (last ∷ []) ≡ inside f m ++ tail → tail ≡ []
 unfolding frameOf
 nothing-behind rule f front last m [] u h b e = refl
@@ -120,7 +123,8 @@ nothing-behind rule f front last m (x ∷ tail) u h b e =
 
 -- READING, THEN WRITING: a part up to its deciding byte that hands out m is the frame of m; by the old rule where its
 -- escapes were needed
-pub read-then-write : (rule : Escapes) (f : Framing) (front : List ℕ) (last : ℕ) (m : List ℕ) → HandsOut rule f front last m
+pub read-then-write : (rule : Escapes) (f : Framing) (front : List ℕ) (last : ℕ) (m : List ℕ)
+    → HandsOut rule f front last m
     → comesBack rule f (front ++ (last ∷ [])) ≡ true → frameOf f m ≡ startOf f ∷ front ++ (last ∷ [])
 unfolding frameOf
 read-then-write rule f front last m r h =

@@ -121,7 +121,8 @@ pub record SoFar (r : Reader) (bs : List ℕ) (i : ℕ) (now : Reader) : Type 0 
 pub record Turn (r : Reader) (bs : List ℕ) (i : ℕ) (now : Reader) (d : Decision) : Type 0 where
   pub so-far : SoFar r bs i now
   pub inside : i < length bs
-  pub done : Done d (take (now .held) (now .bytes)) (stepIn (now .escapes) (now .mode) (getD bs i 0) (take (now .held) (now .bytes)))
+  pub done : Done d (take (now .held) (now .bytes))
+      (stepIn (now .escapes) (now .mode) (getD bs i 0) (take (now .held) (now .bytes)))
 
 -- the array after it, and the reader
 abbrev pub storedBy : Decision → Reader → List ℕ
@@ -290,7 +291,8 @@ module _ (r : Reader) (f : Framing) (m : r .mode ≡ Skipping f) (sound : soundR
   unfolding scanOf
   skip-one b bs other =
       let held = take (r .held) (r .bytes) in
-      let stays : stepOf (r .escapes) (stateOf r) b ≡ goes (r .mode) held = rw m (no-start (r .escapes) (Skipping f) held b other) in
+      let stays : stepOf (r .escapes) (stateOf r) b ≡ goes (r .mode) held =
+      rw m (no-start (r .escapes) (Skipping f) held b other) in
       rw (read-sound r (b ∷ bs) sound, read-sound r bs sound, stays)
 
   left-skipping : (bs : List ℕ) → Left r bs (length (upToStart (startOf f) bs)) r
@@ -391,14 +393,16 @@ module _ {r : Reader} {bs : List ℕ} {i : ℕ} {now : Reader} (t : SoFar r bs i
 
     -- n bytes in silence brought them
     silent-on : (n : ℕ) → n ≤ length rest
-        → scanOf (now .escapes) (inFrame f held) rest ≡ usedMore n (scanOf (now .escapes) (inFrame f (held ++ more)) (drop n rest))
+        → scanOf (now .escapes) (inFrame f held) rest
+        ≡ usedMore n (scanOf (now .escapes) (inFrame f (held ++ more)) (drop n rest))
         → SoFar r bs (i + n) (grownBy now more)
     silent-on n inside e =
         let quiet : Quiet (stateOf now) (inFrame f (held ++ more)) =
         record { stays = inr refl; open-on = λ o. (refl, omega (arith, length-append held more)) } in
         let later = again now (t .sound) (inFrame f (held ++ more)) (drop n rest) fits quiet in
         let first =
-        read-sound now rest (t .sound) ∙ ap (λ s. readFrom now (scanOf (now .escapes) s rest)) in-frame ∙ ap (readFrom now) e in
+        read-sound now rest (t .sound) ∙ ap (λ s. readFrom now (scanOf (now .escapes) s rest)) in-frame
+        ∙ ap (readFrom now) e in
         let used : (u : ℕ) → i + (n + u) ≡ i + n + u = λ u. omega arith in
         rw same
         (record {
@@ -406,7 +410,12 @@ module _ {r : Reader} {bs : List ℕ} {i : ℕ} {now : Reader} (t : SoFar r bs i
           sound = sound-with (Open f) (now .bytes) (held ++ more) (held ++ more) (inr refl) fits;
           size = size-on;
           left = t .left
-              ∙ rw (first, ← drop-drop n i bs, later, used (scanOf (now .escapes) (inFrame f (held ++ more)) (drop n rest) .used));
+              ∙ rw (
+                first,
+                ← drop-drop n i bs,
+                later,
+                used (scanOf (now .escapes) (inFrame f (held ++ more)) (drop n rest) .used),
+              );
         })
 
   -- those that an open frame takes
@@ -432,7 +441,8 @@ module _ {r : Reader} {bs : List ℕ} {i : ℕ} {now : Reader} (t : SoFar r bs i
                 (few-grown (beyond f) L most held P (w .known) refl (omega (arith, length-append held g))),
             refl,
           ) in
-          let run = plain-run (now .escapes) f L (w .known) (length g) held rest P refl (omega arith) refl (omega arith) in
+          let run =
+          plain-run (now .escapes) f L (w .known) (length g) held rest P refl (omega arith) refl (omega arith) in
           rw (w .is)
           (silent-on g fits (span f (length g)) (within f (length g) rest P refl (omega arith))
           (rw (take-again most P) at run))

@@ -106,7 +106,8 @@ module _ (rule : Escapes) (L : ℕ) (known : lengthOk L ≡ true) (held : List �
   one-plain : {f : Framing} {bs p : List ℕ} → Seen f bs p → (x : ℕ) (xs : List ℕ) → p ≡ x ∷ xs
       → getD (held ++ (x ∷ [])) 0 0 ≡ L
       → length held < L + beyond f
-      → scanOf rule (inFrame f held) bs ≡ usedMore (span f 1) (scanOf rule (inFrame f (held ++ (x ∷ []))) (drop (span f 1) bs))
+      → scanOf rule (inFrame f held) bs
+      ≡ usedMore (span f 1) (scanOf rule (inFrame f (held ++ (x ∷ []))) (drop (span f 1) bs))
   unfolding head
   one-plain nothing x xs e f room = absurd (cons≢nil (sym e))
   one-plain (one {b} {bs} s) x xs e f room = one-standing b x bs s (ap (head 0) e) f room
@@ -114,10 +115,12 @@ module _ (rule : Escapes) (L : ℕ) (known : lengthOk L ≡ true) (held : List �
 
 -- ---- a run of them
 
-pub plain-run : (rule : Escapes) (f : Framing) (L : ℕ) → lengthOk L ≡ true → (k : ℕ) (held bs plain : List ℕ) → plainOf f bs ≡ plain
+pub plain-run : (rule : Escapes) (f : Framing) (L : ℕ) → lengthOk L ≡ true → (k : ℕ) (held bs plain : List ℕ)
+    → plainOf f bs ≡ plain
     → k ≤ length plain
     → getD (held ++ plain) 0 0 ≡ L → length held + k ≤ L + beyond f
-    → scanOf rule (inFrame f held) bs ≡ usedMore (span f k) (scanOf rule (inFrame f (held ++ take k plain)) (drop (span f k) bs))
+    → scanOf rule (inFrame f held) bs
+    ≡ usedMore (span f k) (scanOf rule (inFrame f (held ++ take k plain)) (drop (span f k) bs))
 plain-run rule f L known zero held bs plain e n first few =
     rw (append-nil held, span-none f) (used-none (scanOf rule (inFrame f held) bs))
 plain-run rule f L known (suc k) held bs [] e n first few = absurd (omega arith)

@@ -32,7 +32,8 @@ all-held (b ∷ bytes) n e = rw (← e, eqb·suc-zero (length bytes))
 
 -- ---- a start or none
 
-pub at-start : (rule : Escapes) (m : Mode) (bytes : List ℕ) (b : ℕ) → b ≡ startOf (framingOf m) → stepIn rule m b bytes ≡ opensIn m bytes
+pub at-start : (rule : Escapes) (m : Mode) (bytes : List ℕ) (b : ℕ) → b ≡ startOf (framingOf m)
+    → stepIn rule m b bytes ≡ opensIn m bytes
 unfolding stepOf
 at-start rule m bytes b e = rw (eq-eqb b _ e)
 

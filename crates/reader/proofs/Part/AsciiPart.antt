@@ -103,7 +103,8 @@ spend held high b d q k e =
 -- ---- one byte
 
 -- two digits make a byte: the length, or one after it
-paired : (rule : Escapes) (held : List ℕ) (h d b : ℕ) → valueOf b ≡ some d → Does rule (Digit h) held b (takes Ascii held (h * 16 + d))
+paired : (rule : Escapes) (held : List ℕ) (h d b : ℕ) → valueOf b ≡ some d
+    → Does rule (Digit h) held b (takes Ascii held (h * 16 + d))
 unfolding pairs
 paired rule [] h d b e =
     let x = h * 16 + d in
@@ -141,7 +142,8 @@ paired rule (L ∷ rest) h d b e =
     on goes-on
 
 -- no digit where one is due
-none-due : (rule : Escapes) (m : Mode) (high : Option ℕ) (held : List ℕ) (b : ℕ) → ((q : List ℕ) → leftOf rule m held q ≡ spelt high held q)
+none-due : (rule : Escapes) (m : Mode) (high : Option ℕ) (held : List ℕ) (b : ℕ)
+    → ((q : List ℕ) → leftOf rule m held q ≡ spelt high held q)
     → isOpen m ≡ true → framingOf m ≡ Ascii → (Fits m held → Few 2 held) → valueOf b ≡ none
     → Does rule m held b (ends Ascii (handing 2 []) held)
 none-due rule m high held b same o f few e =
@@ -187,7 +189,8 @@ unfolding pairs digitsOf
 ascii rule [] b = digit-due rule [] b (λ k. tt) (valueOf b) refl
 ascii rule (L ∷ rest) b =
     let stop : List (Bool × ℕ) = (not (eqb b 0x0D), 3) ∷ [] in
-    by-test (Does rule (Open Ascii) (L ∷ rest) b) (leb (L + 2) (length rest)) (ends Ascii (wholeOf stop L rest) (L ∷ rest))
+    by-test (Does rule (Open Ascii) (L ∷ rest) b) (leb (L + 2) (length rest))
+    (ends Ascii (wholeOf stop L rest) (L ∷ rest))
     (takesDigit none (L ∷ rest) (valueOf b))
     (λ e. over (record {
       was = refl;

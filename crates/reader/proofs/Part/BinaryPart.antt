@@ -49,7 +49,8 @@ takes-binary rule m [] b x o f few back =
       few = λ k. omega arith;
       stands = λ more. refl;
       sheet = up-to-8 rule (omega arith);
-      left = λ k q. back q ∙ frame-bad x (unstuff rule false q .bytes) (unstuff rule false q .fault) (ended Binary []) e;
+      left = λ k q. back q
+          ∙ frame-bad x (unstuff rule false q .bytes) (unstuff rule false q .fault) (ended Binary []) e;
     }))
 takes-binary rule m (L ∷ rest) b x o f few back =
     let all = rest ++ (x ∷ []) in
@@ -86,7 +87,8 @@ takes-binary rule m (L ∷ rest) b x o f few back =
         ∙ ap decided (whole-front [] L all (u .bytes) long))
 
 -- a byte with no 7Dh before it
-pub binary : (rule : Escapes) (held : List ℕ) (b : ℕ) → Does rule (Open Binary) held b (goesOn rule (Open Binary) held b)
+pub binary : (rule : Escapes) (held : List ℕ) (b : ℕ)
+    → Does rule (Open Binary) held b (goesOn rule (Open Binary) held b)
 unfolding unstuff
 binary rule held b =
     by-test (Does rule (Open Binary) held b) (eqb b 0x7D) (goes Escape held) (takes Binary held b)
@@ -121,7 +123,8 @@ escaped rule held b =
     }))
 
 -- a frame that nothing follows is unfinished
-pub binary-end : (rule : Escapes) (held : List ℕ) (escape : Bool) → Few 2 held → given held (unstuff rule escape []) ≡ unfinished
+pub binary-end : (rule : Escapes) (held : List ℕ) (escape : Bool) → Few 2 held
+    → given held (unstuff rule escape []) ≡ unfinished
 unfolding unstuff
 binary-end rule [] escape k = refl
 binary-end rule (L ∷ rest) escape k = rw (append-nil rest) (frame-short L rest none (ended Binary []) (k .0) (k .1))

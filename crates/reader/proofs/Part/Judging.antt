@@ -66,7 +66,8 @@ pub record On (rule : Escapes) (m : Mode) (held : List ℕ) (b : ℕ) (m′ : Mo
   pub left : Fits m held → (q : List ℕ) → leftOf rule m held (b ∷ q) ≡ leftOf rule m′ held′ q
 
 -- the byte b decides, whatever follows
-pub record Over (rule : Escapes) (m : Mode) (held : List ℕ) (b : ℕ) (f : Framing) (h : Handed) (kept : List ℕ) : Type 0 where
+pub record Over (rule : Escapes) (m : Mode) (held : List ℕ) (b : ℕ) (f : Framing) (h : Handed)
+    (kept : List ℕ) : Type 0 where
   pub was : isOpen m ≡ true
   pub framing : f ≡ framingOf m
   pub grown : length held ≤ length kept

@@ -27,7 +27,8 @@ does rule (Open Ascii) held b = ascii rule held b
 does rule Escape held b = escaped rule held b
 does rule (Digit d) held b = digit rule held d b
 
-does-framing : {rule : Escapes} {m : Mode} {held : List ℕ} {b : ℕ} {t : Step} → Does rule m held b t → framingOf (t .next .mode) ≡ framingOf m
+does-framing : {rule : Escapes} {m : Mode} {held : List ℕ} {b : ℕ} {t : Step} → Does rule m held b t
+    → framingOf (t .next .mode) ≡ framingOf m
 does-framing skips = refl
 does-framing (on x) = x .framing
 does-framing (over x) = x .framing
@@ -51,7 +52,8 @@ does-hands (over x) k q later = rw (x .was, x .left k q)
 -- in a part, by a byte that is no start
 pub hands-on : (rule : Escapes) (m : Mode) (held : List ℕ) (b : ℕ) → Fits m held → (q : List ℕ) (later : List (List ℕ))
     → openHands rule m held (b ∷ q) later
-    ≡ goesOn rule m held b .said ++ openHands rule (goesOn rule m held b .next .mode) (goesOn rule m held b .next .held) q later
+    ≡ goesOn rule m held b .said
+    ++ openHands rule (goesOn rule m held b .next .mode) (goesOn rule m held b .next .held) q later
 hands-on rule m held b k q later = does-hands (does rule m held b) k q later
 
 -- a start byte cuts an open frame short

@@ -78,7 +78,8 @@ sound-with m bytes held kept (inr e) k =
     rw (e, laid-front bytes kept) (fits-sound m kept (drop (length kept) bytes) (rw e at k))
 
 -- a sound reader reads, an unsound one is refused
-pub read-sound : (r : Reader) (bs : List ℕ) → soundReader r ≡ true → readOf r bs ≡ readFrom r (scanOf (r .escapes) (stateOf r) bs)
+pub read-sound : (r : Reader) (bs : List ℕ) → soundReader r ≡ true
+    → readOf r bs ≡ readFrom r (scanOf (r .escapes) (stateOf r) bs)
 unfolding readOf
 read-sound r bs h = rw h
 
@@ -92,7 +93,8 @@ module _ (r : Reader) (bs : List ℕ) (h : soundReader r ≡ true) where
 
   -- the state after a read
   pub state-read : stateOf (readOf r bs .reader) ≡ scanOf (r .escapes) (stateOf r) bs .next
-  state-read = rw (read-sound r bs h) (state-after r (scan .next) (scan .kept) (keeps-scan (r .escapes) (stateOf r) bs .begins))
+  state-read =
+      rw (read-sound r bs h) (state-after r (scan .next) (scan .kept) (keeps-scan (r .escapes) (stateOf r) bs .begins))
 
   -- a sound reader stays sound
   pub sound-read : soundReader (readOf r bs .reader) ≡ true
@@ -177,7 +179,8 @@ module _ (r : Reader) (h : soundReader r ≡ true) where
       let w = keeps-scan (r .escapes) next bs in
       read-sound r₁ bs (sound-with (next .mode) (r .bytes) (next .held) (next .held) (inr refl) k)
       ∙ ap (λ s. readFrom r₁ (scanOf (r .escapes) s bs)) (state-after r next (next .held) (inr refl))
-      ∙ ap (answerWith (r .escapes) (scanOf (r .escapes) next bs)) (same-array next (scanOf (r .escapes) next bs .kept) q (w .longer))
+      ∙ ap (answerWith (r .escapes) (scanOf (r .escapes) next bs))
+      (same-array next (scanOf (r .escapes) next bs .kept) q (w .longer))
 
   by-said : (b : ℕ) (bs : List ℕ) (o : List Handed) → stepOf (r .escapes) (stateOf r) b .said ≡ o → Repeated r b bs
   unfolding scanOf

@@ -38,7 +38,11 @@ record Laid (r : Reader) (a : Given) : Type 0 where
 laid-by : (r : Reader) (bs : List ℕ) (t : Bool) → soundReader r ≡ t → Laid r (readOf r bs)
 laid-by r bs true h =
     rw (read-sound r bs h)
-    (record { kept = scanOf (r .escapes) (stateOf r) bs .kept; hands = keeps-scan (r .escapes) (stateOf r) bs .hands; bytes = refl })
+    (record {
+      kept = scanOf (r .escapes) (stateOf r) bs .kept;
+      hands = keeps-scan (r .escapes) (stateOf r) bs .hands;
+      bytes = refl;
+    })
 laid-by r bs false h = rw (read-unsound r bs h) (record { kept = []; hands = λ more. refl; bytes = refl })
 
 -- the verdict and the reader tell what is handed out

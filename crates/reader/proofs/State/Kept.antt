@@ -53,7 +53,8 @@ pub record Quiet (s next : State) : Type 0 where
 abbrev Keeps : Escapes → State → Step → Type 0
 Keeps rule s t = Kept rule s (t .next) (t .said) (t .kept) × (t .said ≡ [] → Quiet s (t .next))
 
-does-keep : {rule : Escapes} {m : Mode} {held : List ℕ} {b : ℕ} {t : Step} → Does rule m held b t → Keeps rule (record { mode = m; held = held }) t
+does-keep : {rule : Escapes} {m : Mode} {held : List ℕ} {b : ℕ} {t : Step} → Does rule m held b t
+    → Keeps rule (record { mode = m; held = held }) t
 does-keep (skips {f} {held} {b}) = (
   record {
     begins = inr refl;
@@ -114,12 +115,14 @@ keeps-step rule s b =
     (λ e. does-keep (does rule (s .mode) (s .held) b))
 
 -- what soundness says stays at every byte
-pub fits-step : (rule : Escapes) (s : State) (b : ℕ) → Fits (s .mode) (s .held) → Fits (stepOf rule s b .next .mode) (stepOf rule s b .next .held)
+pub fits-step : (rule : Escapes) (s : State) (b : ℕ) → Fits (s .mode) (s .held)
+    → Fits (stepOf rule s b .next .mode) (stepOf rule s b .next .held)
 fits-step rule s b = keeps-step rule s b .0 .fits
 
 -- ---- a read
 
-keeps-on : (rule : Escapes) (s : State) (o : List Handed) (first : Step) (later : Read) → Kept rule s (first .next) o (first .kept)
+keeps-on : (rule : Escapes) (s : State) (o : List Handed) (first : Step) (later : Read)
+    → Kept rule s (first .next) o (first .kept)
     → (o ≡ [] → Quiet s (first .next))
     → Kept rule (first .next) (later .next) (later .said) (later .kept)
     → Kept rule s (readOn o first later .next) (readOn o first later .said) (readOn o first later .kept)
@@ -134,7 +137,8 @@ keeps-on rule s [] first later k q w = record {
 keeps-on rule s (h ∷ []) first later k q w = k
 keeps-on rule s (h ∷ g ∷ hs) first later k q w = absurd (k .hands)
 
-pub keeps-scan : (rule : Escapes) (s : State) (bs : List ℕ) → Kept rule s (scanOf rule s bs .next) (scanOf rule s bs .said) (scanOf rule s bs .kept)
+pub keeps-scan : (rule : Escapes) (s : State) (bs : List ℕ)
+    → Kept rule s (scanOf rule s bs .next) (scanOf rule s bs .said) (scanOf rule s bs .kept)
 unfolding scanOf
 keeps-scan rule s [] = record {
   begins = inr refl;
@@ -146,4 +150,5 @@ keeps-scan rule s [] = record {
 }
 keeps-scan rule s (b ∷ bs) =
     let t = stepOf rule s b in
-    keeps-on rule s (t .said) t (scanOf rule (t .next) bs) (keeps-step rule s b .0) (keeps-step rule s b .1) (keeps-scan rule (t .next) bs)
+    keeps-on rule s (t .said) t (scanOf rule (t .next) bs) (keeps-step rule s b .0) (keeps-step rule s b .1)
+    (keeps-scan rule (t .next) bs)

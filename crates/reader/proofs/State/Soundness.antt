@@ -106,3 +106,8 @@ sound-between Ascii n L = refl
 pub sound-empty : (rule : Escapes) (m : Mode) (n : ℕ)
     → soundReader (record { mode = m; held = suc n; bytes = []; escapes = rule }) ≡ false
 sound-empty rule m n = rw (eqb·suc-zero n)
+
+-- SOUNDNESS DOES NOT DEPEND ON THE RULE of escapes
+pub sound-any-rule : (rule : Escapes) (r : Reader)
+    → soundReader (record { mode = r .mode; held = r .held; bytes = r .bytes; escapes = rule }) ≡ soundReader r
+sound-any-rule rule r = refl

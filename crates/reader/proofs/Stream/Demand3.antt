@@ -1,6 +1,6 @@
 -- DEMAND 3 for verdicts, type bytes and messages: however a stream is cut into reads, a fresh reader hands out what the
--- parts of the uncut stream do, each judged from its whole bytes. One proof for both framings and both rules of escapes.
--- Assumes nothing.
+-- parts of the uncut stream do, each judged from its whole bytes. One proof for both framings and both rules of
+-- escapes. Assumes nothing.
 use Prim.Native.Nat.{ℕ, zero, suc, _+_, _-_, _≤_}
 use native.Mathlib.Omega.{arith}
 use mathlib.Core.Path.{_≡_, refl, sym, ap, _∙_}
@@ -63,7 +63,8 @@ calls-run : {r : Reader} {reads : List (List ℕ)} {hs : List Handed} → Calls 
 calls-run finished h = refl
 calls-run (call {r} {bs} {reads} {again} {hs} e c) h =
     ap (λ l. readOf r bs .said ++ l)
-    (rw (rule-stays r bs) at (calls-run c (sound-read r bs h)) ∙ ap (run (r .escapes) (stateOf (readOf r bs .reader))) e)
+    (rw (rule-stays r bs) at (calls-run c (sound-read r bs h))
+    ∙ ap (run (r .escapes) (stateOf (readOf r bs .reader))) e)
     ∙ sym (one-call r bs h (joined reads))
 
 -- from every sound reader: what the stream that leads to it and the reads hand out together
@@ -74,7 +75,8 @@ sound-caller r {reads} h b c =
     calls-run c h ∙ sym (lead-on (r .escapes) (r .mode) (stateOf r .held) b (reader-fits r h) (joined reads))
 
 -- cut again as it likes
-pub any-caller : (rule : Escapes) (f : Framing) {reads : List (List ℕ)} {hs : List Handed} → Calls (freshReader rule f) reads hs
+pub any-caller : (rule : Escapes) (f : Framing) {reads : List (List ℕ)} {hs : List Handed}
+    → Calls (freshReader rule f) reads hs
     → hs ≡ handedOf rule f (joined reads)
 any-caller rule f {reads} c = calls-run c refl ∙ run-parts rule f [] (joined reads) (tt, refl)
 
@@ -110,7 +112,8 @@ calls-made (suc n) r (bs ∷ reads) h k =
     (enough-left n used bs left reads (length-drop used bs) (used-none r bs h) k))
 
 -- HOWEVER THE STREAM IS CUT INTO READS
-pub reads-are-parts : (rule : Escapes) (f : Framing) (reads : List (List ℕ)) → drive (freshReader rule f) reads ≡ handedOf rule f (joined reads)
+pub reads-are-parts : (rule : Escapes) (f : Framing) (reads : List (List ℕ))
+    → drive (freshReader rule f) reads ≡ handedOf rule f (joined reads)
 unfolding drive
 reads-are-parts rule f reads =
     any-caller rule f (calls-made (length (joined reads) + length reads) (freshReader rule f) reads refl (omega arith))
@@ -148,11 +151,13 @@ intact-sound r p part q h s b clear d e c =
     ∙ handed-amid-part rule f (streamTo r ++ p) part q h clear d
 
 -- from a fresh one
-pub intact-calls : (rule : Escapes) (f : Framing) (p part q : List ℕ) (h : Handed) {reads : List (List ℕ)} {hs : List Handed}
+pub intact-calls : (rule : Escapes) (f : Framing) (p part q : List ℕ)
+    (h : Handed) {reads : List (List ℕ)} {hs : List Handed}
     → among (startOf f) part ≡ false → judge rule f (startOf f ∷ part) ≡ decided h
     → joined reads ≡ p ++ (startOf f ∷ part ++ q)
     → Calls (freshReader rule f) reads hs → hs ≡ handedOf rule f (p ++ (startOf f ∷ [])) ++ (h ∷ handedOf rule f q)
-intact-calls rule f p part q h clear d e c = any-caller rule f c ∙ ap (handedOf rule f) e ∙ handed-amid-part rule f p part q h clear d
+intact-calls rule f p part q h clear d e c =
+    any-caller rule f c ∙ ap (handedOf rule f) e ∙ handed-amid-part rule f p part q h clear d
 
 -- and by the caller that hands in what is left, then the next read
 pub intact-part : (rule : Escapes) (f : Framing) (p part q : List ℕ) (h : Handed) (reads : List (List ℕ))

@@ -38,14 +38,16 @@ after-append : (rule : Escapes) (s : State) (xs ys : List ℕ) → after rule s 
 after-append rule s [] ys = refl
 after-append rule s (b ∷ xs) ys = after-append rule (stepOf rule s b .next) xs ys
 
-leads-then : {rule : Escapes} {s t u : State} {xs ys : List ℕ} → Leads rule s xs t → Leads rule t ys u → Leads rule s (xs ++ ys) u
+leads-then : {rule : Escapes} {s t u : State} {xs ys : List ℕ} → Leads rule s xs t → Leads rule t ys u
+    → Leads rule s (xs ++ ys) u
 leads-then {rule} {s} {t} {u} {xs} {ys} p q = record {
   silent = run-append rule s xs ys ∙ rw (p .silent, p .there) (q .silent);
   there = after-append rule s xs ys ∙ rw (p .there) (q .there);
 }
 
 -- one byte that goes on
-leads-by : (rule : Escapes) (s : State) (b : ℕ) (m : Mode) (held : List ℕ) → stepOf rule s b ≡ goes m held → Leads rule s (b ∷ []) (at m held)
+leads-by : (rule : Escapes) (s : State) (b : ℕ) (m : Mode) (held : List ℕ) → stepOf rule s b ≡ goes m held
+    → Leads rule s (b ∷ []) (at m held)
 leads-by rule s b m held e = record { silent = rw e; there = ap (λ (t : Step). t .next) e }
 
 -- ---- a byte more
@@ -66,7 +68,8 @@ may-follow : (rule : Escapes) (b : ℕ) → needed b ≡ true → mayFollow rule
 may-follow Strict b h = h
 may-follow Lenient b h = refl
 
-escape-on : (rule : Escapes) (held : List ℕ) (b : ℕ) → needed b ≡ true → Fits (Open Binary) (held ++ (bitXor b 0x20 ∷ []))
+escape-on : (rule : Escapes) (held : List ℕ) (b : ℕ) → needed b ≡ true
+    → Fits (Open Binary) (held ++ (bitXor b 0x20 ∷ []))
     → Leads rule (at (Open Binary) held) (0x7D ∷ b ∷ []) (at (Open Binary) (held ++ (bitXor b 0x20 ∷ [])))
 unfolding stepOf
 escape-on rule held b h k =
@@ -100,7 +103,8 @@ unfolding stepOf
 first-digit rule [] d h k = rw (digit-no-start d h, value-digit d h)
 first-digit rule (L ∷ rest) d h k = rw (digit-no-start d h, lt-leb (L + 2) (length rest) (k .1), value-digit d h)
 
-second-digit : (rule : Escapes) (held : List ℕ) (h d : ℕ) → d < 16 → stepOf rule (at (Digit h) held) (digit d) ≡ takes Ascii held (h * 16 + d)
+second-digit : (rule : Escapes) (held : List ℕ) (h d : ℕ) → d < 16
+    → stepOf rule (at (Digit h) held) (digit d) ≡ takes Ascii held (h * 16 + d)
 unfolding stepOf
 second-digit rule held h d k = rw (digit-no-start d k, value-digit d k)
 

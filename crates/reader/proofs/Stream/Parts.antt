@@ -27,13 +27,15 @@ after rule s [] = s
 after rule s (b ∷ bs) = after rule (stepOf rule s b .next) bs
 
 -- a stream in two
-pub run-append : (rule : Escapes) (s : State) (xs ys : List ℕ) → run rule s (xs ++ ys) ≡ run rule s xs ++ run rule (after rule s xs) ys
+pub run-append : (rule : Escapes) (s : State) (xs ys : List ℕ)
+    → run rule s (xs ++ ys) ≡ run rule s xs ++ run rule (after rule s xs) ys
 run-append rule s [] ys = refl
 run-append rule s (b ∷ xs) ys = simp (run-append rule (stepOf rule s b .next) xs ys, append-assoc)
 
 -- the open frame, then the parts after it
 abbrev pub partsFrom : Escapes → Framing → State → List ℕ → List Handed
-partsFrom rule f s bs = openHands rule (s .mode) (s .held) (upToStart (startOf f) bs) (partsOf (startOf f) bs) ++ handedOf rule f bs
+partsFrom rule f s bs =
+    openHands rule (s .mode) (s .held) (upToStart (startOf f) bs) (partsOf (startOf f) bs) ++ handedOf rule f bs
 
 module _ (rule : Escapes) (s : State) (b : ℕ) (bs : List ℕ) (k : Fits (s .mode) (s .held)) where
   abbrev f : Framing
@@ -50,7 +52,8 @@ module _ (rule : Escapes) (s : State) (b : ℕ) (bs : List ℕ) (k : Fits (s .mo
       rw (e, hands-on rule (s .mode) (s .held) b k (upToStart (startOf f) bs) (partsOf (startOf f) bs), append-assoc)
 
 -- from every sound state
-pub by-parts : (rule : Escapes) (s : State) (bs : List ℕ) → Fits (s .mode) (s .held) → run rule s bs ≡ partsFrom rule (framingOf (s .mode)) s bs
+pub by-parts : (rule : Escapes) (s : State) (bs : List ℕ) → Fits (s .mode) (s .held)
+    → run rule s bs ≡ partsFrom rule (framingOf (s .mode)) s bs
 by-parts rule s [] k = rw (hands-none rule (s .mode) (s .held) k)
 by-parts rule s (b ∷ bs) k =
     rw (by-parts rule (stepOf rule s b .next) bs (fits-step rule s b k), framing-step rule s b)

@@ -19,7 +19,8 @@ pub record Scanned (rule : Escapes) (s : State) (bs : List ℕ) (r : Read) : Typ
   pub none-sooner : (k : ℕ) → k < r .used → run rule s (take k bs) ≡ []
   pub or-all : r .said ≡ [] → r .used ≡ length bs
 
-scan-on : (rule : Escapes) (s : State) (b : ℕ) (bs : List ℕ) (o : List Handed) → stepOf rule s b .said ≡ o → Hands o (stepOf rule s b .kept)
+scan-on : (rule : Escapes) (s : State) (b : ℕ) (bs : List ℕ) (o : List Handed) → stepOf rule s b .said ≡ o
+    → Hands o (stepOf rule s b .kept)
     → (later : Read)
     → Scanned rule (stepOf rule s b .next) bs later → Scanned rule s (b ∷ bs) (readOn o (stepOf rule s b) later)
 scan-on rule s b bs [] e h later w = record {
@@ -57,4 +58,5 @@ scanned rule s [] = record {
 }
 scanned rule s (b ∷ bs) =
     let t = stepOf rule s b in
-    scan-on rule s b bs (t .said) refl (keeps-step rule s b .0 .hands) (scanOf rule (t .next) bs) (scanned rule (t .next) bs)
+    scan-on rule s b bs (t .said) refl (keeps-step rule s b .0 .hands) (scanOf rule (t .next) bs)
+    (scanned rule (t .next) bs)

@@ -176,7 +176,8 @@ module _ (rule : Escapes) (f : Framing) (stream bs : List ℕ) where
   equal u v a b false e false k = omega (arith, ltb-false)
 
   -- two answers that meet the rule are equal
-  pub used-unique : (u v : ℕ) (x y : List Handed) → Uses rule f stream bs u x → Uses rule f stream bs v y → (u ≡ v) × (x ≡ y)
+  pub used-unique : (u v : ℕ) (x y : List Handed) → Uses rule f stream bs u x → Uses rule f stream bs v y
+      → (u ≡ v) × (x ≡ y)
   used-unique u v x y p q =
       let e : u ≡ v = equal u v (not-sooner u v x y p q) (not-sooner v u y x q p) (ltb u v) refl (ltb v u) refl in (
         e,

@@ -12,7 +12,8 @@ opens-requires c κs = search needs
 
 returns : tie.Need-returns
 returns c rule bytes e f =
-    rw (at-start rule (Open Binary) bytes (c .before .before .args .b) (c .before .if1 .taken)) (c .opens .ensures bytes)
+    rw (at-start rule (Open Binary) bytes (c .before .before .args .b) (c .before .if1 .taken))
+    (c .opens .ensures bytes)
 
 goes-requires : tie.Need-goes-requires
 goes-requires c κs = search needs

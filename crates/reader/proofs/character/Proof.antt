@@ -24,7 +24,8 @@ call c = c .before .before .before
 -- past the start and the stop a digit is due
 digit-here : (c : tie.After-digit) → let a = call c .args in (rule : Escapes) (bytes : List ℕ)
     → length bytes ≡ a .held
-    → getD bytes 0 (a .first) ≡ a .first → stepIn rule (Open Ascii) (a .b) bytes ≡ takesDigit none bytes (valueOf (a .b))
+    → getD bytes 0 (a .first) ≡ a .first
+    → stepIn rule (Open Ascii) (a .b) bytes ≡ takesDigit none bytes (valueOf (a .b))
 digit-here c rule bytes e f =
     let a = call c .args in
     let due : length bytes < a .first + 3 = omega (arith, c .before .if2 .left) in

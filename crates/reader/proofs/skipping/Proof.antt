@@ -18,7 +18,8 @@ goes-requires c κs = search needs
 returns : tie.Need-returns
 returns c rule bytes e =
     let a = c .before .before .before .args in
-    rw (at-start rule (Skipping (a .framing)) bytes (a .b) (c .before .if1 .taken ∙ c .before .before .start-of .ensures))
+    rw (at-start rule (Skipping (a .framing)) bytes (a .b)
+    (c .before .if1 .taken ∙ c .before .before .start-of .ensures))
     (c .starts .ensures bytes)
 
 returns-2 : tie.Need-returns-2
