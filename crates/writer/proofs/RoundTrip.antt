@@ -11,7 +11,7 @@ use lib.Bits.{bitXor}
 use lib.Dec.{eqb, lit≤}
 use lib.ListN.{length, take, drop, length-append}
 use lib.Seq.{take-append-seam, take-append-add}
-use borrow.Author.Tests.{eqb-true}
+use borrow.Author.Tests.{eq-eqb, eqb-true}
 use Rattle.standard.specs.declared.Framing.{Framing}
 use Rattle.standard.specs.declared.Framing.the-variants.{Binary, Ascii}
 use Rattle.standard.specs.declared.Escapes.{Escapes}
@@ -20,12 +20,12 @@ use Rattle.standard.specs.Messages.{among, checkOf}
 use Rattle.standard.specs.Framing.{startOf, stopOf, stuffed, coding, bodyOf, frameOf, also, needed, stopped, unstuff}
 use Rattle.standard.specs.Framing.{recovered, onlyNeeded, escapesNeeded}
 use Rattle.standard.specs.Judge.{decided, unfinished, handing, judge}
-use Rattle.standard.specs.Stream.{handedOf}
+use Rattle.standard.specs.Stream.{upToStart, handedOf, streamNeeded}
 use Rattle.standard.proofs.Messages.{both-true, good-length}
 use Rattle.standard.proofs.Framings.{Sent, start-escaped, escape-escaped, as-it-is, sent}
 use Rattle.standard.proofs.Framings.{Bytes, bytes-none, bytes-cons, bytes-append, body-bytes, coding-bytes}
 use Rattle.standard.proofs.Framings.{Again, again-none, again-one, pairs-again}
-use Rattle.standard.proofs.Judge.{other-head, judge-frame, good-begins, last-decides}
+use Rattle.standard.proofs.Judge.{other-head, up-to-through, parts-through, judge-frame, good-begins, last-decides}
 use Rattle.standard.proofs.Stream.{no-start, handed-frame, handed-amid}
 use Rattle.standard.proofs.Strict.{recovered-alike}
 use Rattle.writer.specs.RoundTrip.{comesBack, HandsOut}
@@ -156,6 +156,25 @@ coding-needed (b ∷ bs) = sent-needed b (stuffed b) (sent b) (coding Binary bs)
 inside-needed : (f : Framing) (m : List ℕ) → escapesNeeded f (inside f m) ≡ true
 inside-needed Binary m = ap (onlyNeeded false) (append-nil (coding Binary (bodyOf m))) ∙ coding-needed (bodyOf m)
 inside-needed Ascii m = refl
+
+-- nothing stands between a frame and the next
+up-to-next : (f : Framing) (ms : List (List ℕ)) → upToStart (startOf f) (flatMap (frameOf f) ms) ≡ []
+unfolding flatMap frameOf
+up-to-next f [] = refl
+up-to-next f (m ∷ ms) = rw (eq-eqb (startOf f) (startOf f) refl)
+
+-- WHAT IS WRITTEN, FRAME AFTER FRAME, is a stream whose every escape was needed
+pub frames-needed : (f : Framing) (ms : List (List ℕ)) → streamNeeded f (flatMap (frameOf f) ms) ≡ true
+unfolding flatMap frameOf
+frames-needed f [] = refl
+frames-needed f (m ∷ ms) =
+    let x = startOf f in
+    let rest = flatMap (frameOf f) ms in
+    let through =
+    up-to-through x (inside f m) rest (no-start f m) ∙ ap (λ (l : List ℕ). inside f m ++ l) (up-to-next f ms) in
+    let alone = through ∙ append-nil (inside f m) in
+    rw (eq-eqb x x refl, alone, parts-through x (inside f m) rest (no-start f m), inside-needed f m)
+    (frames-needed f ms)
 
 -- AND NO OTHER PART IS: what is written has no needless escape
 pub written-needed : (f : Framing) (after m : List ℕ) → frameOf f m ≡ startOf f ∷ after → escapesNeeded f after ≡ true
