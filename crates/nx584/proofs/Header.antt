@@ -88,6 +88,11 @@ fresh-skips = refl
 pub fresh-skips-ascii : cFresh Strict 1 ≡ numbered 1 0 0 0 zeros
 fresh-skips-ascii = refl
 
+-- escapes 1 is what a lenient one is made with
+pub fresh-lenient-skips : cFresh Lenient 0
+    ≡ record { framing = 0; mode = 0; digit = 0; held = 0; bytes = zeros; escapes = 1 }
+fresh-lenient-skips = refl
+
 pub start-opens : after 0 (0x7E ∷ []) ≡ numbered 0 1 0 0 zeros
 unfolding cRead soundC readOf scanOf stepOf
 start-opens = refl
