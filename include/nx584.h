@@ -1,10 +1,10 @@
-/* libnx584.a: reader, writer, replies, table and overview of the NX-584 protocol, in both framings, and
- * the line of commands that are sent until the gateway acknowledges them.
+/* libnx584.a: reader, writer, replies, table and overview of the NX-584 protocol, in both framings, the
+ * line of commands that are sent until the gateway acknowledges them, and the station log.
  *
  * From a release, x86-64 or 64-bit Arm Linux:
  *
- *     tar xzf pyttelow-0.3-aarch64-linux-gnu.tar.gz
- *     cd pyttelow-0.3-aarch64-linux-gnu
+ *     tar xzf pyttelow-0.5-aarch64-linux-gnu.tar.gz
+ *     cd pyttelow-0.5-aarch64-linux-gnu
  *     cc -std=c11 -O2 -Iinclude examples/host.c lib/libnx584.a -o unit
  *     ./unit --help
  *
@@ -47,7 +47,7 @@ extern "C" {
  * what the numbers below mean. It grows when one of those changes, and only then. A program asks
  * nx584_version() first and stops where it is another number: it was compiled with one version of this
  * file and linked with an archive of another, and no answer would mean what it seems to. */
-#define NX584_VERSION 4
+#define NX584_VERSION 5
 
 /* ---- sizes */
 
@@ -60,6 +60,7 @@ extern "C" {
 #define NX584_GROUPS 16          /* of 16 zones each */
 #define NX584_SLOTS 8            /* of a line of commands; all zero is an empty line */
 #define NX584_LONGEST_COMMAND 13 /* the longest command, its type byte included */
+#define NX584_LOG_MOST 65536     /* the most bytes that a log uses */
 #define NX584_STACK_MOST 4096    /* of stack in a call, with its operands and its answer; measured */
 
 /* ---- numbers */
@@ -93,11 +94,14 @@ extern "C" {
 #define NX584_NONE 255       /* no verdict yet */
 
 /* Refusals, beside 4, 6, 7 and 8. Of a message that is handed to a call, 4 is also a length above 255. */
-#define NX584_NO_ROOM 9          /* the frame does not fit from its place to the end of the buffer */
+#define NX584_NO_ROOM 9          /* the frame, or a log's record, does not fit where it has to stand */
 #define NX584_NO_TABLE 11        /* the buffer is not NX584_TABLE_BYTES long */
 #define NX584_NOT_SOUND 12       /* the reader is none that the library made */
 #define NX584_NO_COMMAND 13      /* a good message, and none of the 14 commands */
 #define NX584_ALL_WAITING 14     /* a command waits in each of the eight slots */
+#define NX584_LOG_USED 16        /* more used bytes than the buffer has, or than NX584_LOG_MOST */
+#define NX584_LOG_NOT_SOUND 17   /* the used bytes are no log that the library made */
+#define NX584_NOT_KEPT 18        /* a good message, and none of 04h to 08h */
 #define NX584_SLOTS_NOT_SOUND 22 /* not NX584_SLOTS slots, or none that the library made */
 
 /* How the front command ended in a call: not at all, given up, or by the message of this number. */
@@ -153,7 +157,8 @@ typedef struct {
     uint8_t message[NX584_LONGEST];
 } nx584_hearing;
 
-/* number: 0 or the refusal. length: of the frame written, 0 where it was refused. */
+/* number: 0 or the refusal. length: of the frame written, or of the record that was added to a log; 0
+ * where it was refused. */
 typedef struct {
     uint8_t number;
     size_t length;
@@ -206,6 +211,13 @@ typedef struct {
     uint8_t message[NX584_LONGEST_COMMAND];
 } nx584_sending;
 
+/* number: 0 or the refusal. at and length: where a record stands in the log, and how many bytes it has,
+ * its trailer included. length 0 with number 0 is none; at is 0 where length is 0. */
+typedef struct {
+    uint8_t number;
+    size_t at, length;
+} nx584_found;
+
 /* What the archive was compiled for; a machine with other sizes stops here. */
 typedef char nx584_has_size_t[sizeof(size_t) == 8 ? 1 : -1];
 typedef char nx584_has_reader[sizeof(nx584_reader) == 266 ? 1 : -1];
@@ -219,6 +231,7 @@ typedef char nx584_has_partition_record[sizeof(nx584_partition_record) == 10 ? 1
 typedef char nx584_has_system_record[sizeof(nx584_system_record) == 13 ? 1 : -1];
 typedef char nx584_has_slot[sizeof(nx584_slot) == 16 ? 1 : -1];
 typedef char nx584_has_sending[sizeof(nx584_sending) == 16 ? 1 : -1];
+typedef char nx584_has_found[sizeof(nx584_found) == 24 ? 1 : -1];
 
 /* ---- functions */
 
@@ -295,6 +308,33 @@ nx584_sending nx584_tick(nx584_slot *slots, size_t slots_len);
 /* To be called for every good message that was heard, nx584_hear's verdict 0, its flag set or not; those
  * that neither end nor repeat the front change nothing. Refusals in this order: 22, 4, 6, 7, 8. */
 nx584_sending nx584_told(nx584_slot *slots, size_t slots_len, const uint8_t *message, size_t message_len);
+
+/* ---- the station log
+ *
+ * What a unit heard, in memory that it lends: good messages of numbers 04h to 08h, each followed by one
+ * byte that holds its length, the trailer. So a record of 04h is 9 bytes, of 05h 11, of 06h and 07h 10, of
+ * 08h 13. They stand one after another from the beginning of the buffer, the oldest first, and `used` says
+ * how many of the buffer's bytes they are: 0 is an empty log, whatever the buffer holds. What stands beyond
+ * is never read. A buffer may be of any length; at most NX584_LOG_MOST bytes of it are used.
+ *
+ * A log is sound when walking back by the trailers from its end lands on its beginning, and every record
+ * there is a good message of numbers 04h to 08h. An empty log is sound, and nx584_keep leaves a sound log
+ * sound, so a host that changes its log by nx584_keep alone never meets 17. Both calls look at the whole
+ * log: what they take grows with `used`, some tens of microseconds for a full one. Two threads lend a log
+ * in turn where one of them keeps. */
+
+/* Keeps a message, with its flag as it came: the record is put at log[used], and every other byte stays.
+ * Refusals in this order: 16 (used is beyond the buffer or above NX584_LOG_MOST), 17 (the log is not
+ * sound), 4, 6, 7, 8 (the message's own), 18 (a number that is not kept), 9 (no room for the record in the
+ * buffer, or within NX584_LOG_MOST); then no byte changes. The answer's length is what was added, 0 where
+ * it was refused, so that used += length is right after every call. */
+nx584_written nx584_keep(uint8_t *log, size_t log_len, size_t used, const uint8_t *message,
+                         size_t message_len);
+
+/* The newest record about a zone, 0 for zone 1: the last 04h of that zone or 05h that covers it, whose
+ * message is log[at] to log[at + length - 2]. length 0 with number 0: the log has none. Refusals in this
+ * order: 16, 17. */
+nx584_found nx584_newest(const uint8_t *log, size_t log_len, size_t used, uint8_t zone);
 
 #ifdef __cplusplus
 }
