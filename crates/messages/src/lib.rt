@@ -4,7 +4,7 @@ ghost use mathlib.Core.Path.{_≡_};
 ghost use mathlib.Core.Logic.{_⊎_};
 ghost use Prim.Native.Nat.{_≤_};
 ghost use lib.ListN.{length};
-ghost use Rattle.standard.specs.Messages.{lengthFor, within, x10Ok, clockOk, valuesOk, checkOf};
+ghost use Rattle.standard.specs.Messages.{lengthFor, within, x10Ok, clockOk, valuesOk, checkOf, isStatus};
 
 // The table of 64 message lengths, hexadecimal number and decimal length; 0: unrecognised.
 const LENGTHS: [u8; 64] = [
@@ -193,5 +193,25 @@ pub fn check(message: &[u8]) -> u8
         0
     } else {
         8
+    }
+}
+
+// Whether a message is good and of one of the numbers 04 to 08: no more is asked of it than `check`
+// would ask of these.
+pub fn is_status(message: &[u8]) -> bool
+    ensures { λ r. ⌜ r ≡ isStatus (now (message .entry)) ⌝ }
+{
+    let n = message.len();
+    if n == 0 {
+        return false;
+    }
+    // A number with bit 6 set is none of them.
+    match message[0] % 128 {
+        0x04 => n == length_for(0x04) as usize,
+        0x05 => n == length_for(0x05) as usize && message[1] <= 240,
+        0x06 => n == length_for(0x06) as usize && message[1] <= 7,
+        0x07 => n == length_for(0x07) as usize,
+        0x08 => n == length_for(0x08) as usize,
+        _ => false,
     }
 }

@@ -3,6 +3,7 @@ pub mod Put
 pub mod Sum
 pub mod Tables
 pub mod Messages
+pub mod Status
 pub mod Refusals
 pub mod Framings
 pub mod Judge

@@ -141,3 +141,11 @@ messageTests m =
 -- the verdict of some bytes as a message: 0, 4, 6, 7 or 8
 unfoldable pub checkOf : List ℕ → ℕ
 checkOf m = firstOf (messageTests m)
+
+-- one of the numbers 04 to 08: the table stores their messages, and (document 02, No. 6) the log keeps them
+abbrev pub statusNumber : ℕ → Bool
+statusNumber n = within 0x04 n 0x08
+
+-- a good message of one of them
+unfoldable pub isStatus : List ℕ → Bool
+isStatus m = eqb (checkOf m) 0 && statusNumber (numberOf (byte 1 m))

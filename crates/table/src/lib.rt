@@ -8,9 +8,9 @@ ghost use Prim.Native.Nat.{_+_, _≤_, _<_};
 ghost use lib.Dec.{eqb, leb};
 ghost use lib.ListN.{length, getD, take, drop};
 ghost use Rattle.standard.specs.Words.{byte, upTo};
+ghost use Rattle.standard.specs.Messages.{isStatus};
 ghost use Rattle.standard.specs.Table.{tableBytes, isTable, zonePlace, partitionPlace, fresh, zoneMark, zoneShort, heardZone, shortFrom, zoneWrites, shortWrites, partitionWrites, partitionShort, systemWrites, doneAll, appliedTo, Applied};
 ghost use Rattle.standard.specs.Questions.{tableRefusal, partitionRefusal, zonePart, partitionPart, systemPart, Answered};
-ghost use Rattle.table.specs.Stored.{storable};
 
 // The answer to a question: 0 and the value, or the refusal's number and 0.
 pub struct Answer {
@@ -187,30 +187,10 @@ fn put_system(table: &mut [u8], message: &[u8])
     bytes::copy(&fields, &mut table[SYSTEM_PLACE..]);
 }
 
-// Whether a message is good and one of the five that the table stores, 04h to 08h: no more is asked
-// of it than `messages::check` would ask of these.
-fn is_stored(message: &[u8]) -> bool
-    ensures { λ r. ⌜ r ≡ storable (now (message .entry)) ⌝ }
-{
-    let n = message.len();
-    if n == 0 {
-        return false;
-    }
-    // A number with bit 6 set is none of them.
-    match message[0] % 128 {
-        0x04 => n == messages::length_for(0x04) as usize,
-        0x05 => n == messages::length_for(0x05) as usize && message[1] <= 240,
-        0x06 => n == messages::length_for(0x06) as usize && message[1] <= 7,
-        0x07 => n == messages::length_for(0x07) as usize,
-        0x08 => n == messages::length_for(0x08) as usize,
-        _ => false,
-    }
-}
-
 // The writes of one of the five.
 fn put(table: &mut [u8], message: &[u8])
     requires { ⌜ length (now table) ≡ tableBytes ⌝ }
-    requires { ⌜ storable (now message) ≡ true ⌝ }
+    requires { ⌜ isStatus (now message) ≡ true ⌝ }
     ensures { λ _. ⌜ now (table .exit) ≡ appliedTo (now (table .entry)) (now (message .entry)) ⌝ }
 {
     match message[0] % 64 {
@@ -224,7 +204,7 @@ fn put(table: &mut [u8], message: &[u8])
 
 // Stores a message, and says whether it was one of the five, good, and for a whole table.
 fn stores(table: &mut [u8], message: &[u8]) -> bool
-    ensures { λ r. ⌜ r ≡ (isTable (now (table .entry)) && storable (now (message .entry))) ⌝ }
+    ensures { λ r. ⌜ r ≡ (isTable (now (table .entry)) && isStatus (now (message .entry))) ⌝ }
     ensures { λ _. ⌜ now (table .exit) ≡ appliedTo (now (table .entry)) (now (message .entry)) ⌝ }
 {
     if refusal(table) != 0 {
@@ -232,7 +212,7 @@ fn stores(table: &mut [u8], message: &[u8]) -> bool
     }
     // A part of the message is handed on in registers, where the message as it came would be copied.
     let n = message.len();
-    if is_stored(&message[..n]) {
+    if messages::is_status(&message[..n]) {
         put(table, message);
         return true;
     }

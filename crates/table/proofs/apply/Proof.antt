@@ -9,12 +9,11 @@ use lib.ListN.{length}
 use lib.Seq.{take-length}
 use borrow.Author.Tests.{eqb-true}
 use borrow.Author.Needs.{needs}
-use Rattle.standard.specs.Messages.{checkOf}
+use Rattle.standard.specs.Messages.{checkOf, isStatus}
 use Rattle.standard.specs.Table.{tableBytes, isTable, applyRefusal, appliedTo}
 use Rattle.standard.specs.Questions.{tableRefusal}
 use Rattle.standard.proofs.Messages.{both-true}
 use Rattle.standard.proofs.Applied.{refusal-after, taken-says, applied-refusal}
-use Rattle.table.specs.Stored.{storable}
 use Rattle.table.proofs.Stored.{taken}
 use Rattle.table.proofs.apply.Statement.{statement}
 use Rattle.table.proofs.apply.Tie as tie
@@ -33,9 +32,9 @@ messageOf c = start c .args .message .now
 left : (c : tie.After-stores) → c .stores .last .0 ≡ appliedTo (tableOf c) (messageOf c)
 left c = c .stores .ensures .1 ∙ ap (appliedTo (tableOf c)) (take-length (messageOf c))
 
-not-refused : (t m : List ℕ) → (isTable t && storable m) ≡ true → applyRefusal t m ≡ 0
+not-refused : (t m : List ℕ) → (isTable t && isStatus m) ≡ true → applyRefusal t m ≡ 0
 not-refused t m h =
-    let b = both-true (isTable t) (storable m) h in
+    let b = both-true (isTable t) (isStatus m) h in
     taken-says (taken t m (eqb-true (length t) tableBytes (b .0)) (b .1))
 
 slice-aggregate-stores : tie.Need-slice-aggregate-stores
@@ -51,7 +50,7 @@ same-length c = search needs
 returns : tie.Need-returns
 returns c = let at = c .before .before .before in
     let stored =
-    sym (at .stores .ensures .0 ∙ ap (λ m. isTable (tableOf at) && storable m) (take-length (messageOf at)))
+    sym (at .stores .ensures .0 ∙ ap (λ m. isTable (tableOf at) && isStatus m) (take-length (messageOf at)))
     ∙ c .if1 .taken in
     record { says = sym (not-refused (tableOf at) (messageOf at) stored); leaves = left at }
 

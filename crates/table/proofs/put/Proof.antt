@@ -1,5 +1,5 @@
--- `table::put` meets its contract: a storable message has the length of its number and values within its places, and
--- each arm does the writes of its number. Assumes nothing.
+-- `table::put` meets its contract: a good message of 04h to 08h has the length of its number and values within its
+-- places, and each arm does the writes of its number. Assumes nothing.
 use Prim.Native.Nat.{ℕ}
 use native.Mathlib.Omega.{arith}
 use mathlib.Core.Path.{_≡_, refl, sym, _∙_}
@@ -11,7 +11,8 @@ use Rattle.standard.specs.Messages.{known, lengthIn, numberOf}
 use Rattle.standard.specs.Table.{writesOf}
 use Rattle.standard.proofs.Messages.{Passed, passed, passed-number, passed-offset, passed-partition}
 use Rattle.standard.proofs.Applied.{Taken, taken-leaves}
-use Rattle.table.proofs.Stored.{taken, stored-is}
+use Rattle.standard.proofs.Status.{status-is}
+use Rattle.table.proofs.Stored.{taken}
 use Rattle.table.proofs.put.Statement.{statement}
 use Rattle.table.proofs.put.Tie as tie
 
@@ -39,7 +40,7 @@ sized c {n} e = passed-number (messageOf c) n (good c) e
 -- the last arm's number
 system : (c : tie.At-match-rest) → numberOf (byte 1 (messageOf (c .before))) ≡ 0x08
 system c =
-    let five = stored-is (messageOf (c .before)) (start (c .before) .pre .1) .1 in
+    let five = status-is (messageOf (c .before)) (start (c .before) .pre .1) .1 in
     let least = five .least in
     let most = five .most in
     let other = c .match .rest in

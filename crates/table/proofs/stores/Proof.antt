@@ -1,15 +1,15 @@
--- `table::stores` meets its contract: a storable message and a whole table are what `put` asks, and all else leaves the
--- table. Assumes nothing.
+-- `table::stores` meets its contract: a good message of 04h to 08h and a whole table are what `put` asks, and all else
+-- leaves the table. Assumes nothing.
 use mathlib.Core.Path.{_≡_, refl, sym, ap, _∙_}
 use mathlib.Core.Bool.{true, false, _&&_}
 use lib.ListN.{length}
 use lib.Seq.{take-length}
 use borrow.Author.Tests.{eq-eqb, ne-eqb}
 use borrow.Author.Needs.{needs}
+use Rattle.standard.specs.Messages.{isStatus}
 use Rattle.standard.specs.Table.{isTable, appliedTo}
 use Rattle.standard.specs.Questions.{tableRefusal}
 use Rattle.standard.proofs.Questions.{asked-whole, whole-is}
-use Rattle.table.specs.Stored.{storable}
 use Rattle.table.proofs.Stored.{kept}
 use Rattle.table.proofs.stores.Statement.{statement}
 use Rattle.table.proofs.stores.Tie as tie
@@ -18,8 +18,8 @@ use Rattle.table.proofs.stores.Tie as tie
 abbrev start : tie.After-refusal → tie.Start
 start c = c .before .before .before .before
 
-abbrev from-stored : tie.After-is-stored → tie.Start
-from-stored c = start (c .before .before .before)
+abbrev from-status : tie.After-is-status → tie.Start
+from-status c = start (c .before .before .before)
 
 -- a table that is not refused is whole, and one that is refused is not
 whole : (c : tie.Else1) → isTable (start (c .before) .args .table .now) ≡ true
@@ -28,18 +28,18 @@ whole c =
     sym (whole-is t) ∙ eq-eqb (tableRefusal t) 0 (sym (c .before .refusal .ensures) ∙ c .if1 .left)
 
 refused : (c : tie.Then1)
-    → (isTable (start (c .before) .args .table .now) && storable (start (c .before) .args .message .now)) ≡ false
+    → (isTable (start (c .before) .args .table .now) && isStatus (start (c .before) .args .message .now)) ≡ false
 refused c =
     let t = start (c .before) .args .table .now in
     rw (sym (whole-is t) ∙ ne-eqb (tableRefusal t) 0 (λ z. c .if1 .taken (c .before .refusal .ensures ∙ z)))
 
 -- what is asked of the message, of all of it
-said : (c : tie.After-is-stored) → c .is-stored .result ≡ storable (from-stored c .args .message .now)
-said c = c .is-stored .ensures ∙ ap storable (take-length (from-stored c .args .message .now))
+said : (c : tie.After-is-status) → c .is-status .result ≡ isStatus (from-status c .args .message .now)
+said c = c .is-status .ensures ∙ ap isStatus (take-length (from-status c .args .message .now))
 
-both : (c : tie.After-is-stored)
-    → let s = from-stored c in
-    (isTable (s .args .table .now) && storable (s .args .message .now)) ≡ c .is-stored .result
+both : (c : tie.After-is-status)
+    → let s = from-status c in
+    (isTable (s .args .table .now) && isStatus (s .args .message .now)) ≡ c .is-status .result
 both c = rw (whole (c .before .before)) (sym (said c))
 
 refusal-requires : tie.Need-refusal-requires
@@ -51,11 +51,11 @@ same-length c = search needs
 returns : tie.Need-returns
 returns c = (sym (refused c), sym (kept _ _ (refused c)))
 
-slice-aggregate-is-stored : tie.Need-slice-aggregate-is-stored
-slice-aggregate-is-stored c = ap length (sym (take-length (start (c .before .before) .args .message .now)))
+slice-aggregate-is-status : tie.Need-slice-aggregate-is-status
+slice-aggregate-is-status c = ap length (sym (take-length (start (c .before .before) .args .message .now)))
 
-is-stored-requires : tie.Need-is-stored-requires
-is-stored-requires c κs = search needs
+is-status-requires : tie.Need-is-status-requires
+is-status-requires c κs = search needs
 
 put-requires : tie.Need-put-requires
 put-requires c κs = let at = c .before .before in
@@ -84,8 +84,8 @@ stores-spec =
     refusal-requires
     same-length
     returns
-    slice-aggregate-is-stored
-    is-stored-requires
+    slice-aggregate-is-status
+    is-status-requires
     put-requires
     same-length-2
     returns-2

@@ -1,4 +1,4 @@
--- `table::is_stored` meets its contract: an arm for each of the five, and every other message is not storable. Assumes
+-- `messages::is_status` meets its contract: an arm for each of the five numbers, and no other message is one. Assumes
 -- nothing.
 use Prim.Native.Nat.{ℕ, _%_}
 use native.Mathlib.Omega.{arith}
@@ -13,10 +13,9 @@ use borrow.Author.Needs.{needs}
 use Rattle.standard.specs.Words.{byte}
 use Rattle.standard.specs.Messages.{lengthFor, within, valuesOk}
 use Rattle.standard.proofs.Messages.{values-offset, values-partition}
-use Rattle.table.specs.Stored.{storable}
-use Rattle.table.proofs.Stored.{Five, sized, unsized, unchecked, none-storable, other-storable}
-use Rattle.table.proofs.is_stored.Statement.{statement}
-use Rattle.table.proofs.is_stored.Tie as tie
+use Rattle.standard.proofs.Status.{Five, sized, unsized, unchecked, none-status, other-status}
+use Rattle.messages.proofs.is_status.Statement.{statement}
+use Rattle.messages.proofs.is_status.Tie as tie
 
 -- the place where the number is known, and the message there
 abbrev messageOf : tie.After-shared-slice-known2 → List ℕ
@@ -30,7 +29,7 @@ partition : (m : List ℕ) → valuesOk 0x06 m ≡ leb (byte 2 m) 7
 partition m = values-partition m 0x06 (inl refl)
 
 returns : tie.Need-returns
-returns c = sym (none-storable (c .before .before .args .message .now) (c .if1 .taken))
+returns c = sym (none-status (c .before .before .args .message .now) (c .if1 .taken))
 
 shared-slice-read-match : tie.Need-shared-slice-read-match
 shared-slice-read-match c = search needs
@@ -132,14 +131,14 @@ returns-8 c =
 
 returns-9 : tie.Need-returns-9
 returns-9 c = let other = c .match .rest in
-    sym (other-storable (messageOf (c .before))
+    sym (other-status (messageOf (c .before))
     (λ five.
     let least = five .least in
     let most = five .most in
     omega (arith, other .0 .0 .0 .0 .1, other .0 .0 .0 .1, other .0 .0 .1, other .0 .1, other .1)))
 
-pub is-stored-spec : {M : Type 1} → statement M
-is-stored-spec =
+pub is-status-spec : {M : Type 1} → statement M
+is-status-spec =
     tie.close
     (tie.spec
     returns
