@@ -1,0 +1,4 @@
+pub mod Walking
+pub mod Backwards
+pub mod Abouts
+pub mod Finding

@@ -1,0 +1,50 @@
+-- Logs that calls of `keep` made, and what a log tells a table. Assumes nothing.
+use Prim.Native.Nat.{ℕ, _+_}
+use mathlib.Core.Bool.{cond}
+use mathlib.Core.Option.{Option·getD}
+use mathlib.Core.List.{List, [], _∷_, _++_}
+use lib.Dec.{eqb}
+use lib.ListN.{take}
+use Rattle.standard.specs.Judge.{Handed, handing}
+use Rattle.log.specs.Log.{recordsOf, keepRefusal, addedOf, afterKeep}
+
+-- a unit's buffer, and how many bytes of it are used
+pub record Station : Type 0 where
+  pub buffer : List ℕ
+  pub used : ℕ
+
+abbrev pub logIn : Station → List ℕ
+logIn s = take (s .used) (s .buffer)
+
+-- a log that begins empty
+abbrev pub empty : List ℕ → Station
+empty buffer = record { buffer = buffer; used = 0 }
+
+-- a call of `keep`: the length that it says is added to the used one, refused or not
+unfoldable pub keeping : Station → List ℕ → Station
+keeping s m = record {
+  buffer = afterKeep (s .buffer) (s .used) m;
+  used = s .used + addedOf (s .buffer) (s .used) m .length;
+}
+
+-- calls with some messages, one after another, and the numbers that they answer
+unfoldable pub keepingAll : Station → List (List ℕ) → Station
+keepingAll s [] = s
+keepingAll s (m ∷ ms) = keepingAll (keeping s m) ms
+
+unfoldable pub numbers : Station → List (List ℕ) → List ℕ
+numbers s [] = []
+numbers s (m ∷ ms) = keepRefusal (s .buffer) (s .used) m ∷ numbers (keeping s m) ms
+
+-- the good messages among what a stream handed out, in their order
+unfoldable pub goodIn : List Handed → List (List ℕ)
+goodIn [] = []
+goodIn (h ∷ hs) = cond (eqb (h .verdict) 0) (h .message ∷ []) [] ++ goodIn hs
+
+-- the messages of a log in the order in which they were kept, as a stream would hand them out
+unfoldable pub oldestFirst : List (List ℕ) → List Handed
+oldestFirst [] = []
+oldestFirst (m ∷ older) = oldestFirst older ++ (handing 0 m ∷ [])
+
+abbrev pub toldBy : List ℕ → List Handed
+toldBy log = oldestFirst (Option·getD (recordsOf log) [])
