@@ -1,6 +1,6 @@
 -- Laws of one step back, as the code takes it: what stands at the end of some bytes is a record, and the bytes before it
 -- tell the rest; or it is none, and they are no log. Assumes nothing.
-use Prim.Native.Nat.{ℕ, _-_, _≤_, _<_}
+use Prim.Native.Nat.{ℕ, _+_, _-_, _≤_, _<_}
 use native.Mathlib.Omega.{arith}
 use mathlib.Core.Path.{_≡_, refl, sym, ap, subst, _∙_}
 use mathlib.Core.Bool.{Bool, true, false, cond, false≢true}
@@ -8,7 +8,7 @@ use mathlib.Core.Option.{Option, none, some, Option·map, Option·none-ne-some}
 use mathlib.Core.List.{List, [], _∷_, _++_}
 use lib.Dec.{ltb}
 use lib.ListN.{length, take, drop}
-use lib.Seq.{length-take-le, take-take}
+use lib.Seq.{length-take-le, take-take, take-add, drop-at}
 use borrow.Author.Tests.{lt-ltb, le-ltb, ltb-true}
 use Rattle.standard.specs.Messages.{isStatus}
 use Rattle.standard.proofs.Messages.{both-true}
@@ -151,10 +151,36 @@ sound-back log b = go (recordsOf (take (startOf log) log)) ∙ sym (ap isList (b
     go none = refl
     go (some ms) = refl
 
+-- "there is such a list"
+pub sound-records : (log : List ℕ) → sound log ≡ true → (ms : List (List ℕ)) × (recordsOf log ≡ some ms)
+unfolding sound
+sound-records log h = go (recordsOf log) refl h
+  where
+    go : (w : Option (List (List ℕ))) → recordsOf log ≡ w → isList w ≡ true → (ms : List (List ℕ)) × (recordsOf log ≡ some ms)
+    go none e t = absurd (false≢true t)
+    go (some ms) e t = (ms, e)
+
+pub records-sound : (log : List ℕ) (ms : List (List ℕ)) → recordsOf log ≡ some ms → sound log ≡ true
+unfolding sound
+records-sound log ms e = ap isList e
+
 -- an empty log is sound
 pub sound-empty : sound [] ≡ true
 unfolding sound recordsOf walkedBack allKept
 sound-empty = refl
+
+-- ---- parts of a part
+
+-- a part of the first bytes is that part of the whole
+part-front : (s k : ℕ) (l : List ℕ) → s ≤ length l → take k (drop s l) ≡ drop s (take (s + k) l)
+part-front s k l h = sym (ap (drop s) (take-add s k l) ∙ drop-at (take s l) (take k (drop s l)) s (length-take-le s l h))
+
+pub part-within : (s k e : ℕ) (l : List ℕ) → s + k ≤ e → e ≤ length l → take k (drop s (take e l)) ≡ take k (drop s l)
+part-within s k e l h inside =
+    let short : s ≤ length (take e l) = rw (length-take-le e l inside) (omega arith) in
+    part-front s k (take e l) short
+    ∙ ap (drop s) (take-take (s + k) e l h)
+    ∙ sym (part-front s k l (omega arith))
 
 -- ---- a turn of the code, which stands at an end within the log and was told where the record there begins
 
@@ -178,6 +204,18 @@ module _ (log : List ℕ) (end : ℕ) {start : ℕ} (some-bytes : 0 < end) (insi
         less = less;
         rest = ap (λ (k : ℕ). take k (take end log)) (sym told) ∙ take-take start end log (omega arith);
       }
+
+  -- the message that the code hands on is that record's
+  pub turn-message : Turn log end start → take (end - 1 - start) (drop start log) ≡ lastMessage (take end log)
+  turn-message t =
+      let n = size in
+      let within = t .step .ended .within in
+      let same : start ≡ lastStart (take end log) = told ∙ t .step .start in
+      let less = t .less in
+      sym (part-within start (end - 1 - start) end log (omega arith) inside)
+      ∙ ap (λ (k : ℕ). take (end - 1 - k) (drop k (take end log))) same
+      ∙ ap (λ (k : ℕ). take (k - 1 - lastStart (take end log)) (drop (lastStart (take end log)) (take end log))) (sym size)
+      ∙ last-part (take end log) (omega arith)
 
   pub turn-stops : start ≡ end → recordsOf (take end log) ≡ none
   turn-stops h = let n = size in stopped (take end log) (omega arith) (sym told ∙ h ∙ sym size)

@@ -1,4 +1,5 @@
 pub mod Walking
 pub mod Backwards
 pub mod Abouts
+pub mod Refusing
 pub mod Finding

@@ -102,9 +102,13 @@ newestPlace log zone = firstPlace (newestFrom log zone)
 
 -- ---- refusals, and what the calls answer
 
+-- "beyond the buffer or above 65,536"
+abbrev pub beyond : List ℕ → ℕ → Bool
+beyond log end = ltb (length log) end || ltb logMost end
+
 -- "16 used length beyond the buffer or above 65,536; 17 log unsound"
 abbrev pub logTests : List ℕ → ℕ → List (Bool × ℕ)
-logTests log used = (ltb (length log) used || ltb logMost used, 16) ∷ (not (sound (take used log)), 17) ∷ []
+logTests log used = (beyond log used, 16) ∷ (not (sound (take used log)), 17) ∷ []
 
 unfoldable pub logRefusal : List ℕ → ℕ → ℕ
 logRefusal log used = firstOf (logTests log used)
@@ -117,15 +121,11 @@ foundOf log used zone = record {
   length = cond (eqb (logRefusal log used) 0) (length (newestOf (take used log) zone)) 0;
 }
 
--- "9 no room in the buffer or within 65,536"
-abbrev pub full : List ℕ → ℕ → List ℕ → Bool
-full log used m = ltb (length log) (used + length (recordOf m)) || ltb logMost (used + length (recordOf m))
-
--- "then the message's own; 18 number not kept; 9"
+-- "then the message's own; 18 number not kept; 9 no room in the buffer or within 65,536"
 abbrev pub keepTests : List ℕ → ℕ → List ℕ → List (Bool × ℕ)
 keepTests log used m =
     logTests log used ++ messageTests m
-    ++ ((not (statusNumber (numberOf (byte 1 m))), 18) ∷ (full log used m, 9) ∷ [])
+    ++ ((not (statusNumber (numberOf (byte 1 m))), 18) ∷ (beyond log (used + length (recordOf m)), 9) ∷ [])
 
 unfoldable pub keepRefusal : List ℕ → ℕ → List ℕ → ℕ
 keepRefusal log used m = firstOf (keepTests log used m)

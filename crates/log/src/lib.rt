@@ -2,14 +2,12 @@
 // lends, each with its length behind it, so that the log is read from its end backwards.
 use standard::Written;
 ghost use mathlib.Core.Path.{_≡_};
-ghost use mathlib.Core.Bool.{_||_};
 ghost use mathlib.Core.List.{[]};
 ghost use Prim.Native.Nat.{_+_, _≤_, _<_};
-ghost use lib.Dec.{ltb};
 ghost use lib.ListN.{length, take};
 ghost use Rattle.standard.specs.Words.{laid};
 ghost use Rattle.standard.specs.Questions.{Answered};
-ghost use Rattle.log.specs.Log.{logMost, recordOf, sound, about, newestOf, logRefusal, foundOf, keepRefusal, Keeps};
+ghost use Rattle.log.specs.Log.{recordOf, sound, about, newestOf, beyond, logRefusal, foundOf, keepRefusal, Keeps};
 ghost use Rattle.log.specs.Places.{startOf, foundIn};
 
 // "a lent buffer of at most 64 KiB"
@@ -111,11 +109,11 @@ fn newest_in(log: &[u8], zone: u8) -> Found
 
 // ---- the calls
 
-// 16: "used length beyond the buffer or above 65,536".
-fn is_beyond(log: &[u8], used: usize) -> bool
-    ensures { λ r. ⌜ r ≡ (ltb (length (now (log .entry))) used || ltb logMost used) ⌝ }
+// "beyond the buffer or above 65,536"
+fn is_beyond(log: &[u8], end: usize) -> bool
+    ensures { λ r. ⌜ r ≡ beyond (now (log .entry)) end ⌝ }
 {
-    log.len() < used || LOG_MOST < used
+    log.len() < end || LOG_MOST < end
 }
 
 // Where the newest record about a zone stands.
@@ -157,11 +155,7 @@ fn keep_refusal(log: &[u8], used: usize, message: &[u8]) -> u8
         return 18;
     }
     let end = used + message.len() + 1;
-    if log.len() < end || LOG_MOST < end {
-        9
-    } else {
-        0
-    }
+    if is_beyond(log, end) { 9 } else { 0 }
 }
 
 // The record, at a place.

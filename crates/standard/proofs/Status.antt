@@ -1,15 +1,18 @@
 -- Laws of `isStatus`: which messages are good and of numbers 04 to 08. Assumes nothing.
-use Prim.Native.Nat.{ℕ, _%_, _≤_, _<_}
+use Prim.Native.Nat.{ℕ, _+_, _-_, _%_, _≤_, _<_}
 use native.Mathlib.Omega.{arith}
-use mathlib.Core.Path.{_≡_, refl, sym, _∙_}
+use mathlib.Core.Path.{_≡_, refl, sym, subst, _∙_}
 use mathlib.Core.Bool.{Bool, true, false, _&&_}
 use mathlib.Core.List.{List}
-use lib.Dec.{eqb}
+use lib.Dec.{eqb, leb, leb→le}
 use lib.ListN.{length}
 use borrow.Author.Tests.{eq-eqb, ne-eqb, eqb-true, leb-true}
 use Rattle.standard.specs.Words.{byte}
-use Rattle.standard.specs.Messages.{numberOf, lengthFor, valuesOk, checkOf, statusNumber, isStatus}
+use Rattle.standard.specs.Messages.{known, lengthIn, numberOf, lengthFor, valuesOk, checkOf}
+use Rattle.standard.specs.Messages.{statusNumber, isStatus}
+use Rattle.standard.proofs.Tables.{below}
 use Rattle.standard.proofs.Messages.{both-true, and-true, low-length, number-length, good, passed, known-low}
+use Rattle.standard.proofs.Messages.{passed-number}
 
 -- one of the five numbers
 pub record Five (n : ℕ) : Type 0 where
@@ -71,3 +74,19 @@ other-status m other =
     let l = b .least in
     let k = b .most in
     other (record { least = omega arith; most = omega arith }))
+
+-- the five lengths
+five-length : (n : ℕ) → Five n → 8 ≤ lengthIn known n
+five-length n b =
+    let least = b .least in
+    let most = b .most in
+    let e : 4 + (n - 4) ≡ n = omega arith in
+    subst (λ (k : ℕ). 8 ≤ lengthIn known k) e
+    (leb→le 8 _ (below (λ k. leb 8 (lengthIn known (4 + k))) 5 tt (n - 4) (omega arith)))
+
+-- so a message of them is not short
+pub status-length : (m : List ℕ) → isStatus m ≡ true → 8 ≤ length m
+status-length m h =
+    let s = status-is m h in
+    let n = numberOf (byte 1 m) in
+    subst (λ (k : ℕ). 8 ≤ k) (sym (passed-number m n (passed m (s .0)) refl)) (five-length n (s .1))

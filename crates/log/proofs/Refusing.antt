@@ -1,0 +1,123 @@
+-- Laws of the refusals in their order: what is answered past each test, and what a call knows that is not refused.
+-- Assumes nothing.
+use Prim.Native.Nat.{ℕ, _+_, _≤_}
+use native.Mathlib.Omega.{arith}
+use mathlib.Core.Path.{_≡_, refl, sym, ap, _∙_}
+use mathlib.Core.Bool.{Bool, true, false, cond, not, _||_}
+use mathlib.Core.List.{List, [], _∷_, _++_}
+use lib.Dec.{eqb, ltb}
+use lib.ListN.{length, take, length-append}
+use borrow.Author.Tests.{eq-eqb, ne-eqb, eqb-true, eqb-false, ltb-false}
+use Rattle.standard.specs.Words.{byte, firstOf}
+use Rattle.standard.specs.Messages.{numberOf, checkOf, messageTests, statusNumber, isStatus}
+use Rattle.standard.proofs.Messages.{check-then}
+use Rattle.log.specs.Log.{logMost, recordOf, sound, beyond, logRefusal, keepRefusal}
+
+-- a place that is not beyond
+pub record Inside (log : List ℕ) (end : ℕ) : Type 0 where
+  pub buffer : end ≤ length log
+  pub most : end ≤ logMost
+
+pub inside : (log : List ℕ) (end : ℕ) → beyond log end ≡ false → Inside log end
+inside log end h = go (ltb (length log) end) refl (ltb logMost end) refl h
+  where
+    go : (a : Bool) → ltb (length log) end ≡ a → (b : Bool) → ltb logMost end ≡ b → (a || b) ≡ false → Inside log end
+    go false p false q e = record { buffer = ltb-false (length log) end p; most = ltb-false logMost end q }
+    go false p true q e = let z : _≡_ {A = ℕ} 0 1 = cc in absurd (omega arith)
+    go true p b q e = let z : _≡_ {A = ℕ} 0 1 = cc in absurd (omega arith)
+
+-- ---- the log's own
+
+module _ (log : List ℕ) (used : ℕ) where
+  pub log-16 : beyond log used ≡ true → logRefusal log used ≡ 16
+  unfolding logRefusal
+  log-16 h = rw h refl
+
+  pub log-else : beyond log used ≡ false → logRefusal log used ≡ cond (sound (take used log)) 0 17
+  unfolding logRefusal
+  log-else h = rw h (go (sound (take used log)))
+    where
+      go : (t : Bool) → _≡_ {A = ℕ} (cond (not t) 17 0) (cond t 0 17)
+      go true = refl
+      go false = refl
+
+-- a log that is not refused
+pub record Asked (log : List ℕ) (used : ℕ) : Type 0 where
+  pub fits : Inside log used
+  pub sounds : sound (take used log) ≡ true
+
+pub asked : (log : List ℕ) (used : ℕ) → logRefusal log used ≡ 0 → Asked log used
+asked log used h = go (beyond log used) refl (sound (take used log)) refl
+  where
+    go : (a : Bool) → beyond log used ≡ a → (b : Bool) → sound (take used log) ≡ b → Asked log used
+    go true p b q = let z = sym h ∙ log-16 log used p in absurd (omega arith)
+    go false p false q = let z = sym h ∙ log-else log used p ∙ ap (λ t. cond t 0 17) q in absurd (omega arith)
+    go false p true q = record { fits = inside log used p; sounds = q }
+
+-- ---- those of `keep`
+
+-- the log's own are first, and then the message's, 18 and 9
+module _ (log : List ℕ) (used : ℕ) (m : List ℕ) where
+  abbrev after : ℕ
+  after =
+      cond (eqb (checkOf m) 0)
+      (firstOf
+      ((not (statusNumber (numberOf (byte 1 m))), 18) ∷ (beyond log (used + length (recordOf m)), 9) ∷ []))
+      (checkOf m)
+
+  ordered : keepRefusal log used m ≡ cond (beyond log used) 16 (cond (not (sound (take used log))) 17 after)
+  unfolding keepRefusal
+  ordered =
+      ap (λ (n : ℕ). cond (beyond log used) 16 (cond (not (sound (take used log))) 17 n))
+      (check-then m ((not (statusNumber (numberOf (byte 1 m))), 18) ∷ (beyond log (used + length (recordOf m)), 9) ∷ []))
+
+  pub keep-16 : beyond log used ≡ true → keepRefusal log used m ≡ 16
+  keep-16 h = ordered ∙ rw h refl
+
+  module _ (p : beyond log used ≡ false) where
+    pub keep-17 : sound (take used log) ≡ false → keepRefusal log used m ≡ 17
+    keep-17 h = ordered ∙ rw (p, h) refl
+
+    module _ (q : sound (take used log) ≡ true) where
+      pub keep-own : (checkOf m ≡ 0 → ⊥) → keepRefusal log used m ≡ checkOf m
+      keep-own h = ordered ∙ rw (p, q, ne-eqb (checkOf m) 0 h) refl
+
+      module _ (r : checkOf m ≡ 0) where
+        number : statusNumber (numberOf (byte 1 m)) ≡ isStatus m
+        unfolding isStatus
+        number = rw (eq-eqb (checkOf m) 0 r) refl
+
+        pub keep-18 : isStatus m ≡ false → keepRefusal log used m ≡ 18
+        keep-18 h = ordered ∙ rw (p, q, eq-eqb (checkOf m) 0 r, number ∙ h) refl
+
+        pub keep-else : isStatus m ≡ true
+            → keepRefusal log used m ≡ cond (beyond log (used + length (recordOf m))) 9 0
+        keep-else h = ordered ∙ rw (p, q, eq-eqb (checkOf m) 0 r, number ∙ h) refl
+
+-- a message that is kept
+pub record Taken (log : List ℕ) (used : ℕ) (m : List ℕ) : Type 0 where
+  pub fits : Inside log used
+  pub sounds : sound (take used log) ≡ true
+  pub kept : isStatus m ≡ true
+  pub room : Inside log (used + length (recordOf m))
+
+pub taken : (log : List ℕ) (used : ℕ) (m : List ℕ) → keepRefusal log used m ≡ 0 → Taken log used m
+taken log used m h = go (beyond log used) refl (sound (take used log)) refl (eqb (checkOf m) 0) refl (isStatus m) refl
+    (beyond log (used + length (recordOf m))) refl
+  where
+    n : ℕ
+    n = used + length (recordOf m)
+    go : (a : Bool) → beyond log used ≡ a → (b : Bool) → sound (take used log) ≡ b → (c : Bool) → eqb (checkOf m) 0 ≡ c
+        → (d : Bool) → isStatus m ≡ d → (e : Bool) → beyond log n ≡ e → Taken log used m
+    go true p b q c r d s e t = let z = sym h ∙ keep-16 log used m p in absurd (omega arith)
+    go false p false q c r d s e t = let z = sym h ∙ keep-17 log used m p q in absurd (omega arith)
+    go false p true q false r d s e t =
+        let own = eqb-false (checkOf m) 0 r in
+        absurd (own (sym (keep-own log used m p q own) ∙ h))
+    go false p true q true r false s e t =
+        let z = sym h ∙ keep-18 log used m p q (eqb-true (checkOf m) 0 r) s in absurd (omega arith)
+    go false p true q true r true s true t =
+        let z = sym h ∙ keep-else log used m p q (eqb-true (checkOf m) 0 r) s ∙ ap (λ u. cond u 9 0) t in
+        absurd (omega arith)
+    go false p true q true r true s false t =
+        record { fits = inside log used p; sounds = q; kept = s; room = inside log n t }
