@@ -31,11 +31,6 @@ use Rattle.host.specs.Hearings.{call}
 
 -- ---- the table after a list
 
-pub after-append : (t : List ℕ) (a b : List Handed) → tableAfter t (a ++ b) ≡ tableAfter (tableAfter t a) b
-unfolding tableAfter
-after-append t [] b = refl
-after-append t (h ∷ a) b = after-append (cond (eqb (h .verdict) 0) (appliedTo t (h .message)) t) a b
-
 kept-length : (good : Bool) (t m : List ℕ) → length (cond good (appliedTo t m) t) ≡ length t
 kept-length true t m = applied-length t m
 kept-length false t m = refl

@@ -18,6 +18,7 @@ use Rattle.standard.specs.Table.{fresh, appliedTo, tableAfter}
 use Rattle.standard.proofs.Words.{map-append, flatMap-append}
 use Rattle.standard.proofs.Messages.{good-length, check-six}
 use Rattle.standard.proofs.Framings.{Bytes}
+use Rattle.standard.proofs.Stored.{after-append}
 use Rattle.standard.proofs.Stream.{handed-every}
 use Rattle.standard.proofs.Decided.{handed-amid-part}
 use Rattle.reader.specs.Read.{freshReader}
@@ -25,7 +26,7 @@ use Rattle.reader.specs.Calls.{joined}
 use Rattle.host.specs.Hearings.{Heard, sends, replyFor, heardAs, streamHeard, thenHeard, alsoHeard, hearAll}
 use Rattle.host.specs.Hearings.{Hearings}
 use Rattle.host.specs.Hearings.{heardBefore, heardAmid}
-use Rattle.host.proofs.Demand3.{after-append, demand3, demand3-any-caller}
+use Rattle.host.proofs.Demand3.{demand3, demand3-any-caller}
 
 -- some verdicts, and others after them
 heard-append : (t : List ℕ) (a b : List Handed)

@@ -3,3 +3,8 @@ pub mod Backwards
 pub mod Abouts
 pub mod Refusing
 pub mod Finding
+pub mod Keeping
+pub mod Newer
+pub mod Rebuilt
+pub mod Unique
+pub mod Bench

@@ -7,10 +7,11 @@ use mathlib.Core.Bool.{Bool, true, false, cond, not, _||_}
 use mathlib.Core.List.{List, [], _∷_, _++_}
 use lib.Dec.{eqb, ltb}
 use lib.ListN.{length, take, length-append}
-use borrow.Author.Tests.{eq-eqb, ne-eqb, eqb-true, eqb-false, ltb-false}
+use borrow.Author.Tests.{eq-eqb, ne-eqb, eqb-true, eqb-false, ltb-false, le-ltb}
 use Rattle.standard.specs.Words.{byte, firstOf}
-use Rattle.standard.specs.Messages.{numberOf, checkOf, messageTests, statusNumber, isStatus}
+use Rattle.standard.specs.Messages.{among, numberOf, checkOf, messageTests, statusNumber, isStatus}
 use Rattle.standard.proofs.Messages.{check-then}
+use Rattle.standard.proofs.Refusals.{first-in}
 use Rattle.log.specs.Log.{logMost, recordOf, sound, beyond, logRefusal, keepRefusal}
 
 -- a place that is not beyond
@@ -25,6 +26,9 @@ inside log end h = go (ltb (length log) end) refl (ltb logMost end) refl h
     go false p false q e = record { buffer = ltb-false (length log) end p; most = ltb-false logMost end q }
     go false p true q e = let z : _≡_ {A = ℕ} 0 1 = cc in absurd (omega arith)
     go true p b q e = let z : _≡_ {A = ℕ} 0 1 = cc in absurd (omega arith)
+
+pub inside-not : (log : List ℕ) (end : ℕ) → Inside log end → beyond log end ≡ false
+inside-not log end h = rw (le-ltb (length log) end (h .buffer), le-ltb logMost end (h .most)) refl
 
 -- ---- the log's own
 
@@ -53,6 +57,9 @@ asked log used h = go (beyond log used) refl (sound (take used log)) refl
     go true p b q = let z = sym h ∙ log-16 log used p in absurd (omega arith)
     go false p false q = let z = sym h ∙ log-else log used p ∙ ap (λ t. cond t 0 17) q in absurd (omega arith)
     go false p true q = record { fits = inside log used p; sounds = q }
+
+pub asked-none : (log : List ℕ) (used : ℕ) → Asked log used → logRefusal log used ≡ 0
+asked-none log used a = log-else log used (inside-not log used (a .fits)) ∙ rw (a .sounds) refl
 
 -- ---- those of `keep`
 
@@ -93,6 +100,11 @@ module _ (log : List ℕ) (used : ℕ) (m : List ℕ) where
         pub keep-else : isStatus m ≡ true
             → keepRefusal log used m ≡ cond (beyond log (used + length (recordOf m))) 9 0
         keep-else h = ordered ∙ rw (p, q, eq-eqb (checkOf m) 0 r, number ∙ h) refl
+
+-- the message's own
+pub own-numbers : (m : List ℕ) → among (checkOf m) (0 ∷ 4 ∷ 6 ∷ 7 ∷ 8 ∷ 18 ∷ 9 ∷ []) ≡ true
+unfolding checkOf
+own-numbers m = first-in (λ n. among n (0 ∷ 4 ∷ 6 ∷ 7 ∷ 8 ∷ 18 ∷ 9 ∷ [])) (messageTests m) refl
 
 -- a message that is kept
 pub record Taken (log : List ℕ) (used : ℕ) (m : List ℕ) : Type 0 where

@@ -1,12 +1,17 @@
 -- Logs that calls of `keep` made, and what a log tells a table. Assumes nothing.
 use Prim.Native.Nat.{ℕ, _+_}
-use mathlib.Core.Bool.{cond}
+use mathlib.Core.Bool.{Bool, false, cond, _||_}
 use mathlib.Core.Option.{Option·getD}
 use mathlib.Core.List.{List, [], _∷_, _++_}
 use lib.Dec.{eqb}
 use lib.ListN.{take}
 use Rattle.standard.specs.Judge.{Handed, handing}
-use Rattle.log.specs.Log.{recordsOf, keepRefusal, addedOf, afterKeep}
+use Rattle.log.specs.Log.{recordsOf, about, keepRefusal, addedOf, afterKeep}
+
+-- whether one of some messages is about a zone
+unfoldable pub anyAbout : ℕ → List (List ℕ) → Bool
+anyAbout zone [] = false
+anyAbout zone (m ∷ ms) = about zone m || anyAbout zone ms
 
 -- a unit's buffer, and how many bytes of it are used
 pub record Station : Type 0 where

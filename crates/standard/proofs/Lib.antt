@@ -16,5 +16,6 @@ pub mod Seen
 pub mod Shares
 pub mod Questions
 pub mod Applied
+pub mod Stored
 pub mod Report
 pub mod Unique

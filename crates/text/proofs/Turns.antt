@@ -19,6 +19,7 @@ use Rattle.standard.specs.Replies.{replyNumber}
 use Rattle.standard.specs.Table.{tableBytes, tableAfter}
 use Rattle.standard.specs.Report.{lineWith, verdictLine}
 use Rattle.standard.proofs.Words.{flatMap-append}
+use Rattle.standard.proofs.Stored.{after-append}
 use Rattle.reader.specs.declared.Reader.{Reader}
 use Rattle.reader.specs.Read.{freshReader, stateOf, readOf}
 use Rattle.reader.specs.Calls.{Reached, fresh, read, Uses}
@@ -27,7 +28,7 @@ use Rattle.reader.proofs.State.Arrays.{Whole}
 use Rattle.reader.proofs.Stream.Used.{met, met-rule, used-rule}
 use Rattle.host.specs.Hear.{replyTo, heardBy, Hears}
 use Rattle.host.proofs.Answers.{heard-read}
-use Rattle.host.proofs.Demand3.{after-append, after-length}
+use Rattle.host.proofs.Demand3.{after-length}
 use Rattle.text.specs.Lines.{handedWith, saidLines}
 
 -- `&capture[i..]`, as it is lent

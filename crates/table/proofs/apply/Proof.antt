@@ -14,7 +14,7 @@ use Rattle.standard.specs.Table.{tableBytes, isTable, applyRefusal, appliedTo}
 use Rattle.standard.specs.Questions.{tableRefusal}
 use Rattle.standard.proofs.Messages.{both-true}
 use Rattle.standard.proofs.Applied.{refusal-after, taken-says, applied-refusal}
-use Rattle.table.proofs.Stored.{taken}
+use Rattle.standard.proofs.Stored.{taken}
 use Rattle.table.proofs.apply.Statement.{statement}
 use Rattle.table.proofs.apply.Tie as tie
 

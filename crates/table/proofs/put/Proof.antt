@@ -12,7 +12,7 @@ use Rattle.standard.specs.Table.{writesOf}
 use Rattle.standard.proofs.Messages.{Passed, passed, passed-number, passed-offset, passed-partition}
 use Rattle.standard.proofs.Applied.{Taken, taken-leaves}
 use Rattle.standard.proofs.Status.{status-is}
-use Rattle.table.proofs.Stored.{taken}
+use Rattle.standard.proofs.Stored.{taken}
 use Rattle.table.proofs.put.Statement.{statement}
 use Rattle.table.proofs.put.Tie as tie
 

@@ -10,7 +10,7 @@ use Rattle.standard.specs.Messages.{isStatus}
 use Rattle.standard.specs.Table.{isTable, appliedTo}
 use Rattle.standard.specs.Questions.{tableRefusal}
 use Rattle.standard.proofs.Questions.{asked-whole, whole-is}
-use Rattle.table.proofs.Stored.{kept}
+use Rattle.standard.proofs.Stored.{kept}
 use Rattle.table.proofs.stores.Statement.{statement}
 use Rattle.table.proofs.stores.Tie as tie
 

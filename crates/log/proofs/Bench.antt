@@ -1,0 +1,17 @@
+-- THE CARDS OF THE LOG: each question and each message of Cards is answered as its card says. Assumes nothing.
+use mathlib.Core.Path.{_≡_, refl}
+use mathlib.Core.List.{map}
+use Rattle.standard.specs.Messages.{lengthFor, valuesOk, checkOf, isStatus}
+use Rattle.log.specs.Log.{walkedBack, allKept, recordsOf, sound, about, fromNewest, firstRecord, firstPlace}
+use Rattle.log.specs.Log.{joined, logRefusal, foundOf, keepRefusal, addedOf}
+use Rattle.log.specs.Cards.{Asked, Told, askedOf, toldOf, asking, telling}
+
+pub questions : map askedOf asking ≡ map (λ (c : Asked). c .said) asking
+unfolding
+  foundOf logRefusal sound recordsOf walkedBack allKept isStatus checkOf lengthFor valuesOk about fromNewest firstRecord
+  firstPlace joined
+questions = refl
+
+pub messages : map toldOf telling ≡ map (λ (c : Told). c .said) telling
+unfolding addedOf keepRefusal sound recordsOf walkedBack allKept isStatus checkOf lengthFor valuesOk
+messages = refl
