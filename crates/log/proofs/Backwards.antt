@@ -1,5 +1,5 @@
--- Laws of one step back, as the code takes it: what stands at the end of some bytes is a record, and the bytes before it
--- tell the rest; or it is none, and they are no log. Assumes nothing.
+-- Laws of one step back, as the code takes it: what stands at the end of some bytes is a record, and the bytes before
+-- it tell the rest; or it is none, and they are no log. Assumes nothing.
 use Prim.Native.Nat.{ℕ, _+_, _-_, _≤_, _<_}
 use native.Mathlib.Omega.{arith}
 use mathlib.Core.Path.{_≡_, refl, sym, ap, subst, _∙_}
@@ -73,6 +73,7 @@ one-more log some-bytes h = by (recordsOf (take (lastStart log) log)) refl
     none-too (some (m ∷ older)) e f =
         let s = split log m older (records-joined log (m ∷ older) e) in
         absurd (Option·none-ne-some older (sym f ∙ joined-records (take (lastStart log) log) older (s .before)))
+
     by : (w : Option (List (List ℕ))) → recordsOf (take (lastStart log) log) ≡ w
         → recordsOf log ≡ Option·map (λ ms. lastMessage log ∷ ms) w
     by none e = none-too (recordsOf log) refl e
@@ -84,6 +85,7 @@ one-more log some-bytes h = by (recordsOf (take (lastStart log) log)) refl
       where
         all : Ended log → Holds (take (lastStart log) log) older → log ≡ joined (lastMessage log ∷ older)
         all r b = last-record log (r .within) ∙ ap (λ (l : List ℕ). l ++ recordOf (lastMessage log)) (b .bytes)
+
         both : isStatus (lastMessage log) ≡ true → allKept older ≡ true → allKept (lastMessage log ∷ older) ≡ true
         both p q = rw (p, q) refl
 
@@ -135,7 +137,10 @@ stopped log some-bytes h = go (endsWell log) refl
   where
     go : (t : Bool) → endsWell log ≡ t → recordsOf log ≡ none
     go false e = no-record log some-bytes e
-    go true e = let r = well log e .within in let s : lastStart log ≡ length log = sym (rw e) ∙ h in absurd (omega arith)
+    go true e =
+        let r = well log e .within in
+        let s : lastStart log ≡ length log = sym (rw e) ∙ h in
+        absurd (omega arith)
 
 -- ---- soundness
 
@@ -156,7 +161,8 @@ pub sound-records : (log : List ℕ) → sound log ≡ true → (ms : List (List
 unfolding sound
 sound-records log h = go (recordsOf log) refl h
   where
-    go : (w : Option (List (List ℕ))) → recordsOf log ≡ w → isList w ≡ true → (ms : List (List ℕ)) × (recordsOf log ≡ some ms)
+    go : (w : Option (List (List ℕ))) → recordsOf log ≡ w → isList w ≡ true
+        → (ms : List (List ℕ)) × (recordsOf log ≡ some ms)
     go none e t = absurd (false≢true t)
     go (some ms) e t = (ms, e)
 
@@ -173,7 +179,8 @@ sound-empty = refl
 
 -- a part of the first bytes is that part of the whole
 part-front : (s k : ℕ) (l : List ℕ) → s ≤ length l → take k (drop s l) ≡ drop s (take (s + k) l)
-part-front s k l h = sym (ap (drop s) (take-add s k l) ∙ drop-at (take s l) (take k (drop s l)) s (length-take-le s l h))
+part-front s k l h =
+    sym (ap (drop s) (take-add s k l) ∙ drop-at (take s l) (take k (drop s l)) s (length-take-le s l h))
 
 pub part-within : (s k e : ℕ) (l : List ℕ) → s + k ≤ e → e ≤ length l → take k (drop s (take e l)) ≡ take k (drop s l)
 part-within s k e l h inside =
@@ -212,10 +219,11 @@ module _ (log : List ℕ) (end : ℕ) {start : ℕ} (some-bytes : 0 < end) (insi
       let within = t .step .ended .within in
       let same : start ≡ lastStart (take end log) = told ∙ t .step .start in
       let less = t .less in
+      let l = take end log in
       sym (part-within start (end - 1 - start) end log (omega arith) inside)
-      ∙ ap (λ (k : ℕ). take (end - 1 - k) (drop k (take end log))) same
-      ∙ ap (λ (k : ℕ). take (k - 1 - lastStart (take end log)) (drop (lastStart (take end log)) (take end log))) (sym size)
-      ∙ last-part (take end log) (omega arith)
+      ∙ ap (λ (k : ℕ). take (end - 1 - k) (drop k l)) same
+      ∙ ap (λ (k : ℕ). take (k - 1 - lastStart l) (drop (lastStart l) l)) (sym size)
+      ∙ last-part l (omega arith)
 
   pub turn-stops : start ≡ end → recordsOf (take end log) ≡ none
   turn-stops h = let n = size in stopped (take end log) (omega arith) (sym told ∙ h ∙ sym size)

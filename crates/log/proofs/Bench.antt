@@ -7,9 +7,8 @@ use Rattle.log.specs.Log.{joined, logRefusal, foundOf, keepRefusal, adde
 use Rattle.log.specs.Cards.{Asked, Told, askedOf, toldOf, asking, telling}
 
 pub questions : map askedOf asking ≡ map (λ (c : Asked). c .said) asking
-unfolding
-  foundOf logRefusal sound recordsOf walkedBack allKept isStatus checkOf lengthFor valuesOk about fromNewest firstRecord
-  firstPlace joined
+unfolding foundOf logRefusal sound recordsOf walkedBack allKept isStatus checkOf lengthFor valuesOk about fromNewest
+    firstRecord firstPlace joined
 questions = refl
 
 pub messages : map toldOf telling ≡ map (λ (c : Told). c .said) telling

@@ -1,6 +1,6 @@
 -- Laws of the newest record about a zone: as the code looks for it, where it stands, and WHEN THERE IS NONE. Assumes
 -- nothing.
-use Prim.Native.Nat.{ℕ, _+_, _-_, _≤_, _<_}
+use Prim.Native.Nat.{ℕ, _+_, _-_, _≤_}
 use native.Mathlib.Omega.{arith}
 use mathlib.Core.Path.{_≡_, refl, sym, ap, ap₂, subst, _∙_}
 use mathlib.Core.Bool.{Bool, true, false, cond, false≢true}
@@ -11,10 +11,11 @@ use lib.ListN.{length, take, drop, length-append, length-take, length-drop, take
 use lib.Seq.{length-take-le, take-length, drop-at, drop-append-le, take-append-le}
 use borrow.Author.Tests.{eqb-true}
 use Rattle.log.specs.declared.Found.{Found}
-use Rattle.log.specs.Log.{recordOf, joined, trailer, lastStart, lastMessage, walkedBack, allKept, recordsOf, isList, sound, about}
-use Rattle.log.specs.Log.{fromNewest, firstRecord, firstPlace, newestFrom, newestOf, newestPlace, beyond, logRefusal, foundOf}
+use Rattle.log.specs.Log.{recordOf, joined, trailer, lastMessage, walkedBack, allKept, recordsOf, isList, sound}
+use Rattle.log.specs.Log.{about, fromNewest, firstRecord, firstPlace, newestFrom, newestOf, newestPlace, beyond}
+use Rattle.log.specs.Log.{logRefusal, foundOf}
 use Rattle.log.specs.Places.{startOf, foundIn}
-use Rattle.log.proofs.Walking.{Holds, records-joined}
+use Rattle.log.proofs.Walking.{records-joined}
 use Rattle.log.proofs.Backwards.{Back, sound-records}
 use Rattle.log.proofs.Refusing.{log-16, log-else, asked}
 
@@ -71,13 +72,13 @@ found-here log zone b h s = go (recordsOf (take (startOf log) log)) refl s
         let within = b .ended .within in
         let less = b .less in
         let place : length (joined older) ≡ startOf log =
-            sym (ap length (records-joined (take (startOf log) log) older e .bytes))
-            ∙ length-take-le (startOf log) log (omega arith) in
+        sym (ap length (records-joined (take (startOf log) log) older e .bytes))
+        ∙ length-take-le (startOf log) log (omega arith) in
         let message : length (lastMessage log) ≡ trailer log = rw (length-take, length-drop) (omega arith) in
         let size : length (recordOf (lastMessage log)) ≡ length log - startOf log =
-            length-append (lastMessage log) (length (lastMessage log) ∷ []) ∙ (omega arith) in
+        length-append (lastMessage log) (length (lastMessage log) ∷ []) ∙ (omega arith) in
         let all : recordsOf log ≡ some (lastMessage log ∷ older) =
-            b .records ∙ ap (Option·map (λ ms. lastMessage log ∷ ms)) e in
+        b .records ∙ ap (Option·map (λ ms. lastMessage log ∷ ms)) e in
         found-listed log zone
         ∙ ap (λ (w : Option (List (List ℕ))). listed w zone) all
         ∙ rw h (ap₂ (λ (p n : ℕ). record { number = 0; at = p; length = n }) place size)
@@ -173,9 +174,9 @@ stands-in log used zone e =
     let ms = all .0 in
     let h = records-joined (take used log) ms (all .1) in
     let from : newestFrom (take used log) zone ≡ fromNewest zone ms =
-        ap (λ (w : Option (List (List ℕ))). fromNewest zone (Option·getD w [])) (all .1) in
+    ap (λ (w : Option (List (List ℕ))). fromNewest zone (Option·getD w [])) (all .1) in
     let whole : joined ms ++ drop used log ≡ log =
-        ap (λ (l : List ℕ). l ++ drop used log) (sym (h .bytes)) ∙ take-append-drop used log in
+    ap (λ (l : List ℕ). l ++ drop used log) (sym (h .bytes)) ∙ take-append-drop used log in
     subst (λ (l : List ℕ). Stands l (newestFrom (take used log) zone)) whole
     (subst (Stands (joined ms ++ drop used log)) (sym from)
     (stands-before (joined ms) (drop used log) (fromNewest zone ms) (newest-stands zone ms)))

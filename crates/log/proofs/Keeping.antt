@@ -4,23 +4,22 @@ use Prim.Native.Nat.{ℕ, _+_, _≤_}
 use native.Mathlib.Nat.{add-zero}
 use native.Mathlib.Omega.{arith}
 use mathlib.Core.Path.{_≡_, refl, sym, ap, ap₂, subst, _∙_}
-use mathlib.Core.Bool.{Bool, true, false, cond, not, _||_}
-use mathlib.Core.Option.{Option, none, some, Option·getD}
+use mathlib.Core.Bool.{Bool, true, false, cond}
+use mathlib.Core.Option.{some}
 use mathlib.Core.List.{List, [], _∷_, _++_}
 use lib.Dec.{eqb}
-use lib.ListN.{length, take, drop, length-append, length-take, length-drop}
+use lib.ListN.{length, take, drop, length-append, length-drop}
 use lib.Seq.{take-at, length-take-le}
-use borrow.Author.Tests.{eq-eqb, ne-eqb, eqb-true, eqb-false, le-ltb}
+use borrow.Author.Tests.{ne-eqb, eqb-true, eqb-false}
 use Rattle.standard.specs.Words.{laid}
 use Rattle.standard.specs.Messages.{among, checkOf, isStatus}
-use Rattle.log.specs.declared.Found.{Found}
-use Rattle.log.specs.Log.{logMost, recordOf, joined, allKept, recordsOf, sound, about, fromNewest, firstRecord}
-use Rattle.log.specs.Log.{firstPlace, newestOf, newestPlace, logRefusal, foundOf, keepRefusal, addedOf, afterKeep}
+use Rattle.log.specs.Log.{recordOf, joined, allKept, recordsOf}
+use Rattle.log.specs.Log.{logRefusal, keepRefusal, addedOf, afterKeep}
 use Rattle.log.specs.Log.{beyond}
-use Rattle.log.specs.Runs.{Station, logIn, empty, keeping, keepingAll, anyAbout}
-use Rattle.log.proofs.Walking.{Holds, records-joined, joined-records}
+use Rattle.log.specs.Runs.{Station, logIn, empty, keeping, keepingAll}
+use Rattle.log.proofs.Walking.{records-joined, joined-records}
 use Rattle.log.proofs.Backwards.{sound-records, records-sound, sound-empty}
-use Rattle.log.proofs.Refusing.{Inside, inside-not, Asked, asked-none, Taken, taken, own-numbers, keep-own, keep-18}
+use Rattle.log.proofs.Refusing.{Inside, inside-not, Asked, asked-none, taken, own-numbers, keep-own, keep-18}
 use Rattle.log.proofs.Refusing.{keep-else}
 
 -- ---- one call
@@ -122,15 +121,18 @@ keep-numbers log used m a = go (eqb (checkOf m) 0) refl (isStatus m) refl (beyon
   where
     p : beyond log used ≡ false
     p = inside-not log used (a .fits)
+
     Is : ℕ → Type 0
     Is n = among n (0 ∷ 4 ∷ 6 ∷ 7 ∷ 8 ∷ 18 ∷ 9 ∷ []) ≡ true
+
     go : (b : Bool) → eqb (checkOf m) 0 ≡ b → (c : Bool) → isStatus m ≡ c
         → (d : Bool) → beyond log (used + length (recordOf m)) ≡ d → Is (keepRefusal log used m)
     go false r c s d t =
         subst Is (sym (keep-own log used m p (a .sounds) (eqb-false (checkOf m) 0 r))) (own-numbers m)
     go true r false s d t = subst Is (sym (keep-18 log used m p (a .sounds) (eqb-true (checkOf m) 0 r) s)) refl
     go true r true s d t =
-        subst Is (sym (keep-else log used m p (a .sounds) (eqb-true (checkOf m) 0 r) s ∙ ap (λ u. cond u 9 0) t)) (last d)
+        let e = keep-else log used m p (a .sounds) (eqb-true (checkOf m) 0 r) s in
+        subst Is (sym (e ∙ ap (λ u. cond u 9 0) t)) (last d)
       where
         last : (d : Bool) → Is (cond d 9 0)
         last true = refl

@@ -1,8 +1,8 @@
--- THE NEWEST RECORD ABOUT A ZONE, over the list of records: it is the newest, there is none exactly if the log has none,
--- and what it is after `keep`. Assumes nothing.
-use Prim.Native.Nat.{ℕ, suc, _+_}
+-- THE NEWEST RECORD ABOUT A ZONE, over the list of records: it is the newest, there is none exactly if the log has
+-- none, and what it is after `keep`. Assumes nothing.
+use Prim.Native.Nat.{ℕ, _+_}
 use native.Mathlib.Omega.{arith}
-use mathlib.Core.Path.{_≡_, refl, sym, ap, ap₂, _∙_}
+use mathlib.Core.Path.{_≡_, refl, sym, ap, _∙_}
 use mathlib.Core.Bool.{Bool, true, false, cond, not, _||_}
 use mathlib.Core.Option.{Option, some, Option·getD}
 use mathlib.Core.List.{List, [], _∷_, _++_}
@@ -11,13 +11,14 @@ use lib.ListN.{length, take, length-append}
 use lib.Seq.{length-take-le}
 use borrow.Author.Tests.{ne-eqb}
 use Rattle.log.specs.declared.Found.{Found}
-use Rattle.log.specs.Log.{recordOf, joined, recordsOf, about, fromNewest, firstRecord, firstPlace, newestOf}
-use Rattle.log.specs.Log.{newestPlace, logRefusal, foundOf, keepRefusal}
+use Rattle.log.specs.Log.{recordOf, joined, recordsOf, about, fromNewest, firstRecord, firstPlace, newestFrom}
+use Rattle.log.specs.Log.{newestOf}
+use Rattle.log.specs.Log.{logRefusal, foundOf, keepRefusal}
 use Rattle.log.specs.Runs.{Station, logIn, keeping, anyAbout}
 use Rattle.log.proofs.Walking.{records-joined}
 use Rattle.log.proofs.Backwards.{sound-records}
-use Rattle.log.proofs.Refusing.{Asked, asked, asked-none, taken}
-use Rattle.log.proofs.Keeping.{kept-adds, kept-records, keeping-asked}
+use Rattle.log.proofs.Refusing.{Asked, asked-none, taken}
+use Rattle.log.proofs.Keeping.{kept-records, keeping-asked}
 
 -- ---- over a list
 
@@ -35,7 +36,8 @@ is-newest zone (n ∷ newer) older m h e = go (about zone n) h (is-newest zone n
     go true h more = let z : _≡_ {A = ℕ} 0 1 = cc in absurd (omega arith)
 
 -- there is one exactly if some message is about the zone
-listed-none : (zone : ℕ) (ms : List (List ℕ)) → eqb (length (firstRecord (fromNewest zone ms))) 0 ≡ not (anyAbout zone ms)
+listed-none : (zone : ℕ) (ms : List (List ℕ))
+    → eqb (length (firstRecord (fromNewest zone ms))) 0 ≡ not (anyAbout zone ms)
 unfolding fromNewest firstRecord anyAbout
 listed-none zone [] = refl
 listed-none zone (m ∷ older) = go (about zone m) (listed-none zone older)
@@ -67,6 +69,16 @@ pub none-exactly : (log : List ℕ) (used zone : ℕ) (ms : List (List ℕ)) →
 none-exactly log used zone ms h e =
     ap (λ (f : Found). eqb (f .length) 0) (found-list log used zone ms h e) ∙ listed-none zone ms
 
+-- it stands nowhere then
+pub none-at-0 : (log : List ℕ) (used zone : ℕ) → foundOf log used zone .length ≡ 0 → foundOf log used zone .at ≡ 0
+unfolding foundOf firstRecord firstPlace
+none-at-0 log used zone = go (eqb (logRefusal log used) 0) (newestFrom (take used log) zone)
+  where
+    go : (t : Bool) (from : List (List ℕ)) → cond t (length (firstRecord from)) 0 ≡ 0 → cond t (firstPlace from) 0 ≡ 0
+    go false from h = refl
+    go true [] h = refl
+    go true (m ∷ older) h = let n = length-append m (length m ∷ []) in absurd (omega arith)
+
 -- ---- AFTER `keep`
 
 -- what is found in a station's log
@@ -88,8 +100,8 @@ module _ (s : Station) (m : List ℕ) (h : keepRefusal (s .buffer) (s .used) m �
       let all = sound-records (logIn s) (before .sounds) in
       let ms = all .0 in
       let place : length (joined ms) ≡ s .used =
-          sym (ap length (records-joined (logIn s) ms (all .1) .bytes))
-          ∙ length-take-le (s .used) (s .buffer) (before .fits .buffer) in
+      sym (ap length (records-joined (logIn s) ms (all .1) .bytes))
+      ∙ length-take-le (s .used) (s .buffer) (before .fits .buffer) in
       found-list (keeping s m .buffer) (keeping s m .used) zone (m ∷ ms) after (kept-records s m ms h (all .1))
       ∙ rw e (ap (λ (n : ℕ). record { number = 0; at = n; length = length (recordOf m) }) place)
 

@@ -8,8 +8,8 @@ use mathlib.Core.Option.{Option, some, Option·getD}
 use mathlib.Core.List.{List, [], _∷_, _++_}
 use lib.Dec.{eqb}
 use lib.ListN.{length}
-use borrow.Author.Tests.{eqb-true, eqb-false, eq-eqb}
-use Rattle.standard.specs.Messages.{among, checkOf, isStatus}
+use borrow.Author.Tests.{eqb-true, eqb-false}
+use Rattle.standard.specs.Messages.{among, isStatus}
 use Rattle.standard.specs.Judge.{Handed, handing}
 use Rattle.standard.specs.Table.{appliedTo, tableAfter}
 use Rattle.standard.proofs.Status.{status-is}
@@ -55,6 +55,7 @@ not-kept s m a p q = go (isStatus m) refl (beyond (s .buffer) (s .used + length 
         is : keepRefusal (s .buffer) (s .used) m ≡ cond (beyond (s .buffer) (s .used + length (recordOf m))) 9 0
         is = keep-else (s .buffer) (s .used) m (inside-not (s .buffer) (s .used) (a .fits)) (a .sounds)
             (status-is m e .0) e
+
         last : (c : Bool) → beyond (s .buffer) (s .used + length (recordOf m)) ≡ c → ⊥
         last true f = q (is ∙ ap (λ t. cond t 9 0) f)
         last false f = p (is ∙ ap (λ t. cond t 9 0) f)
@@ -68,6 +69,7 @@ told-keeping t s m a room = go (eqb (keepRefusal (s .buffer) (s .used) m) 0) ref
     told : (ms : List (List ℕ)) (log : List ℕ) → recordsOf log ≡ some ms
         → tableAfter t (toldBy log) ≡ tableAfter t (oldestFirst ms)
     told ms log e = ap (λ (w : Option (List (List ℕ))). tableAfter t (oldestFirst (Option·getD w []))) e
+
     go : (ok : Bool) → eqb (keepRefusal (s .buffer) (s .used) m) 0 ≡ ok
         → tableAfter t (toldBy (logIn (keeping s m))) ≡ appliedTo (tableAfter t (toldBy (logIn s))) m
     go true e =

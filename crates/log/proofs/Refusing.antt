@@ -4,15 +4,15 @@ use Prim.Native.Nat.{ℕ, _+_, _≤_}
 use native.Mathlib.Omega.{arith}
 use mathlib.Core.Path.{_≡_, refl, sym, ap, _∙_}
 use mathlib.Core.Bool.{Bool, true, false, cond, not, _||_}
-use mathlib.Core.List.{List, [], _∷_, _++_}
+use mathlib.Core.List.{List, [], _∷_}
 use lib.Dec.{eqb, ltb}
-use lib.ListN.{length, take, length-append}
+use lib.ListN.{length, take}
 use borrow.Author.Tests.{eq-eqb, ne-eqb, eqb-true, eqb-false, ltb-false, le-ltb}
 use Rattle.standard.specs.Words.{byte, firstOf}
 use Rattle.standard.specs.Messages.{among, numberOf, checkOf, messageTests, statusNumber, isStatus}
 use Rattle.standard.proofs.Messages.{check-then}
 use Rattle.standard.proofs.Refusals.{first-in}
-use Rattle.log.specs.Log.{logMost, recordOf, sound, beyond, logRefusal, keepRefusal}
+use Rattle.log.specs.Log.{logMost, recordOf, sound, beyond, logRefusal, keepTests, keepRefusal}
 
 -- a place that is not beyond
 pub record Inside (log : List ℕ) (end : ℕ) : Type 0 where
@@ -76,7 +76,8 @@ module _ (log : List ℕ) (used : ℕ) (m : List ℕ) where
   unfolding keepRefusal
   ordered =
       ap (λ (n : ℕ). cond (beyond log used) 16 (cond (not (sound (take used log))) 17 n))
-      (check-then m ((not (statusNumber (numberOf (byte 1 m))), 18) ∷ (beyond log (used + length (recordOf m)), 9) ∷ []))
+      (check-then m
+      ((not (statusNumber (numberOf (byte 1 m))), 18) ∷ (beyond log (used + length (recordOf m)), 9) ∷ []))
 
   pub keep-16 : beyond log used ≡ true → keepRefusal log used m ≡ 16
   keep-16 h = ordered ∙ rw h refl
@@ -106,6 +107,13 @@ pub own-numbers : (m : List ℕ) → among (checkOf m) (0 ∷ 4 ∷ 6 ∷ 7 ∷ 
 unfolding checkOf
 own-numbers m = first-in (λ n. among n (0 ∷ 4 ∷ 6 ∷ 7 ∷ 8 ∷ 18 ∷ 9 ∷ [])) (messageTests m) refl
 
+-- whatever is handed in, `keep` answers one of these
+pub all-numbers : (log : List ℕ) (used : ℕ) (m : List ℕ)
+    → among (keepRefusal log used m) (0 ∷ 16 ∷ 17 ∷ 4 ∷ 6 ∷ 7 ∷ 8 ∷ 18 ∷ 9 ∷ []) ≡ true
+unfolding keepRefusal
+all-numbers log used m =
+    first-in (λ n. among n (0 ∷ 16 ∷ 17 ∷ 4 ∷ 6 ∷ 7 ∷ 8 ∷ 18 ∷ 9 ∷ [])) (keepTests log used m) refl
+
 -- a message that is kept
 pub record Taken (log : List ℕ) (used : ℕ) (m : List ℕ) : Type 0 where
   pub fits : Inside log used
@@ -119,6 +127,7 @@ taken log used m h = go (beyond log used) refl (sound (take used log)) refl (eqb
   where
     n : ℕ
     n = used + length (recordOf m)
+
     go : (a : Bool) → beyond log used ≡ a → (b : Bool) → sound (take used log) ≡ b → (c : Bool) → eqb (checkOf m) 0 ≡ c
         → (d : Bool) → isStatus m ≡ d → (e : Bool) → beyond log n ≡ e → Taken log used m
     go true p b q c r d s e t = let z = sym h ∙ keep-16 log used m p in absurd (omega arith)

@@ -1,5 +1,5 @@
--- Each public function's promise settles its answer, and every byte of the lent buffer: two that meet the predicate that
--- its contract generates are equal. Assumes nothing.
+-- Each public function's promise settles its answer, and every byte of the lent buffer: two that meet the predicate
+-- that its contract generates are equal. Assumes nothing.
 use mathlib.Core.Path.{_≡_, sym, _∙_}
 use borrow.Fn.Kinds.{Dens, endedOf, resT}
 use contract.Lifetimes.{Lfts}

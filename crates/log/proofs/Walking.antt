@@ -4,16 +4,15 @@ use Prim.Native.Nat.{ℕ, zero, suc, _+_, _-_, _≤_, _<_}
 use native.Mathlib.Nat.{le-refl}
 use native.Mathlib.Omega.{arith}
 use mathlib.Core.Path.{_≡_, refl, sym, ap, ap₂, subst, _∙_}
-use mathlib.Core.Bool.{Bool, true, false, cond, _&&_}
-use mathlib.Core.Option.{Option, none, some, Option·map, Option·some-injective, Option·none-ne-some, Option·some-ne-none}
+use mathlib.Core.Bool.{Bool, true, false, cond}
+use mathlib.Core.Option.{Option, none, some, Option·map, Option·some-injective, Option·none-ne-some}
 use mathlib.Core.List.{List, [], _∷_, _++_, append-assoc}
 use lib.Dec.{eqb, ltb}
-use lib.ListN.{length, getD, take, drop, length-append, length-take, length-drop, drop-of-length-le}
+use lib.ListN.{length, getD, take, length-append, length-take, length-drop, drop-of-length-le}
 use lib.Seq.{split-at, take-add, take-at, drop-at, getD-at}
-use borrow.Author.Tests.{eq-eqb, ne-eqb, lt-ltb, eqb-true, eqb-false, ltb-true}
-use Rattle.standard.specs.Messages.{isStatus}
-use Rattle.standard.proofs.Messages.{both-true}
-use Rattle.log.specs.Log.{recordOf, joined, trailer, lastStart, lastMessage, walkedBack, allKept, ifKept, recordsOf}
+use borrow.Author.Tests.{ne-eqb, lt-ltb, eqb-true, ltb-true}
+use Rattle.log.specs.Log.{recordOf, joined, trailer, lastStart, lastMessage, walkedBack, allKept, ifKept}
+use Rattle.log.specs.Log.{recordsOf}
 
 -- ---- the last record
 
@@ -25,10 +24,10 @@ last-record log h =
     let t = trailer log in
     let s = lastStart log in
     let whole : log ≡ take n log ++ (t ∷ []) =
-        split-at log n 0 (omega arith)
-        ∙ ap (λ (l : List ℕ). take n log ++ (t ∷ l)) (drop-of-length-le log {i = suc n} (omega arith)) in
+    split-at log n 0 (omega arith)
+    ∙ ap (λ (l : List ℕ). take n log ++ (t ∷ l)) (drop-of-length-le log {i = suc n} (omega arith)) in
     let two : take n log ≡ take s log ++ lastMessage log =
-        let e : n ≡ s + t = omega arith in ap (λ (k : ℕ). take k log) e ∙ take-add s t log in
+    let e : n ≡ s + t = omega arith in ap (λ (k : ℕ). take k log) e ∙ take-add s t log in
     let size : length (lastMessage log) ≡ t = rw (length-take, length-drop) (omega arith) in
     whole
     ∙ ap (λ (l : List ℕ). l ++ (t ∷ [])) two
@@ -45,7 +44,8 @@ module _ (older m : List ℕ) where
 
   pub trailer-ended : trailer ended ≡ length m
   trailer-ended =
-      let front : length (older ++ m) ≡ length ended - 1 = let n = size-ended in length-append older m ∙ (omega arith) in
+      let n = size-ended in
+      let front : length (older ++ m) ≡ length ended - 1 = length-append older m ∙ (omega arith) in
       ap (λ (l : List ℕ). getD l (length ended - 1) 0) (sym (append-assoc older m (length m ∷ [])))
       ∙ getD-at (older ++ m) (length m) [] 0 (length ended - 1) front
 
@@ -94,8 +94,10 @@ walk-is (suc steps) log ms h =
   where
     rest : Option (List (List ℕ))
     rest = walkedBack steps (take (lastStart log) log)
+
     Before : Type 0
     Before = (older : List (List ℕ)) → rest ≡ some older → take (lastStart log) log ≡ joined older
+
     by : Before → trailer log < length log → (w : Option (List (List ℕ))) → rest ≡ w
         → Option·map (λ ms. lastMessage log ∷ ms) w ≡ some ms → log ≡ joined ms
     by before l none e h = absurd (Option·none-ne-some ms h)
@@ -103,6 +105,7 @@ walk-is (suc steps) log ms h =
         last-record log l
         ∙ ap (λ (o : List ℕ). o ++ recordOf (lastMessage log)) (before older e)
         ∙ ap joined (Option·some-injective (lastMessage log ∷ older) ms h)
+
     go : Before → (t : Bool) → eqb (length log) 0 ≡ t → (u : Bool) → ltb (trailer log) (length log) ≡ u
         → cond t (some []) (cond u (Option·map (λ ms. lastMessage log ∷ ms) rest) none) ≡ some ms → log ≡ joined ms
     go before true e u f h = no-bytes log (eqb-true (length log) 0 e) ∙ ap joined (Option·some-injective [] ms h)

@@ -3,6 +3,7 @@ pub mod Back
 pub mod Cuts
 pub mod Parts
 pub mod Header
+pub mod Station
 pub mod Unique
 pub mod FreshReader
 pub mod Lent

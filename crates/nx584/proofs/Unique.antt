@@ -47,6 +47,10 @@ use Rattle.nx584.proofs.nx584_system.Reads as system
 use Rattle.nx584.proofs.nx584_take as take
 use Rattle.nx584.proofs.nx584_tick as tick
 use Rattle.nx584.proofs.nx584_told as told
+use Rattle.nx584.proofs.nx584_keep.Kinds as keep-kinds
+use Rattle.nx584.proofs.nx584_keep.Reads as keep
+use Rattle.nx584.proofs.nx584_newest.Kinds as newest-kinds
+use Rattle.nx584.proofs.nx584_newest.Reads as newest
 use Rattle.nx584.proofs.nx584_version.Kinds as version-kinds
 use Rattle.nx584.proofs.nx584_version.Reads as version
 
@@ -145,3 +149,14 @@ pub nx584-version-unique : (κs : Lfts 0) (a : Dens κs version-kinds.ps)
     (e : AtExit (endedOf 0 version-kinds.ps version-kinds.r) κs)
     (x y : resT version-kinds.r κs .Denot) → version.Post κs a x e → version.Post κs a y e → x ≡ y
 nx584-version-unique κs a e x y p q = p ∙ sym q
+
+pub nx584-keep-unique : (κs : Lfts 2) (a : Dens κs keep-kinds.ps)
+    (e e′ : AtExit (endedOf 2 keep-kinds.ps keep-kinds.r) κs)
+    (x y : resT keep-kinds.r κs .Denot) → keep.Post κs a x e → keep.Post κs a y e′
+    → (x ≡ y) × (now (e .0) ≡ now (e′ .0))
+nx584-keep-unique κs a e e′ x y p q = (p .says ∙ sym (q .says), p .leaves ∙ sym (q .leaves))
+
+pub nx584-newest-unique : (κs : Lfts 1) (a : Dens κs newest-kinds.ps)
+    (e : AtExit (endedOf 1 newest-kinds.ps newest-kinds.r) κs)
+    (x y : resT newest-kinds.r κs .Denot) → newest.Post κs a x e → newest.Post κs a y e → x ≡ y
+nx584-newest-unique κs a e x y p q = p ∙ sym q

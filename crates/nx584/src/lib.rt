@@ -25,13 +25,15 @@ ghost use Rattle.standard.specs.Table.{Applied, appliedTo};
 ghost use Rattle.standard.specs.Overview.{seenOf, shareNumber, groupValues};
 ghost use Rattle.reader.specs.Step.{framingOf};
 ghost use Rattle.commands.specs.Commands.{endedNumber, answerOf, after, takeOf, tickOf, toldOf};
+ghost use Rattle.log.specs.Log.{foundOf};
 ghost use Rattle.nx584.specs.Line.{cAnswer};
+ghost use Rattle.nx584.specs.Station.{cFound, CKeeps};
 ghost use Rattle.nx584.specs.Records.{cZone, cPartition, cSystem};
 ghost use Rattle.nx584.specs.Boundary.{framingFor, escapesFor, escapesNumber, framingNumber, modeNumber, digitNumber, pendingFor, modeFor, cFresh, modeOk, numbersSaid, padded, cRefused, cReading, withReply, cHearing, cRead, CHears, CWrote, cGroup, cOverview};
 ghost use Rattle.nx584.specs.Scan.{scannedAs, readerIn, tookIn, CScans};
 
 // NX584_VERSION: of the header that this library goes with.
-const VERSION: u32 = 4;
+const VERSION: u32 = 5;
 
 // NX584_LONGEST: the most bytes of a message that is read.
 const LONGEST: usize = standard::LONGEST;
@@ -84,6 +86,14 @@ struct CScanned {
 #[repr(C)]
 pub struct CWritten {
     pub number: u8,
+    pub length: usize,
+}
+
+// Where a record stands in a log, and its length; both 0 where there is none.
+#[repr(C)]
+pub struct CFound {
+    pub number: u8,
+    pub at: usize,
     pub length: usize,
 }
 
@@ -706,7 +716,32 @@ pub extern "C" fn nx584_told(slots: &mut [Slot], message: &[u8]) -> CSending
 // To compare with NX584_VERSION.
 #[no_mangle]
 pub extern "C" fn nx584_version() -> u32
-    ensures { λ r. ⌜ r ≡ 4 ⌝ }
+    ensures { λ r. ⌜ r ≡ 5 ⌝ }
 {
     VERSION
+}
+
+// A message into the log.
+#[no_mangle]
+pub extern "C" fn nx584_keep(log: &mut [u8], used: usize, message: &[u8]) -> CWritten
+    ensures { λ r. ⌜ CKeeps (now (log .entry)) used (now (message .entry)) r (now (log .exit)) ⌝ }
+{
+    let added = log::keep(log, used, message);
+    CWritten {
+        number: added.number,
+        length: added.length,
+    }
+}
+
+// The newest record about a zone.
+#[no_mangle]
+pub extern "C" fn nx584_newest(log: &[u8], used: usize, zone: u8) -> CFound
+    ensures { λ r. ⌜ r ≡ cFound (foundOf (now (log .entry)) used zone) ⌝ }
+{
+    let found = log::find(log, used, zone);
+    CFound {
+        number: found.number,
+        at: found.at,
+        length: found.length,
+    }
 }

@@ -1,6 +1,6 @@
 -- `log::is_sound` meets its contract. The loop's invariant: what is left before the end is sound if the whole is.
 -- Assumes nothing.
-use Prim.Native.Nat.{ℕ, _≤_, _<_}
+use Prim.Native.Nat.{ℕ, _≤_}
 use native.Mathlib.Nat.{le-refl}
 use native.Mathlib.Omega.{arith}
 use mathlib.Core.Path.{_≡_, sym, ap, _∙_}
@@ -50,7 +50,8 @@ returns c =
     let at = c .before .before .before in
     let log = at .before .before .before .args .log .now in
     let l = at .before .loop in
-    let none = turn-stops log (l .end) (at .loop-test .taken) (l .inv .within) (c .before .record-start .ensures) (c .if1 .taken) in
+    let told = c .before .record-start .ensures in
+    let none = turn-stops log (l .end) (at .loop-test .taken) (l .inv .within) told (c .if1 .taken) in
     sym (sound-none (take (l .end) log) none) ∙ l .inv .same
 
 loop-less : tie.Need-loop-less Inv-loop μ-loop

@@ -1,19 +1,16 @@
 -- `log::keep` meets its contract: what is not refused has room for its record. Assumes nothing.
-use Prim.Native.Nat.{ℕ, _+_, _≤_}
+use Prim.Native.Nat.{ℕ, _+_}
 use native.Mathlib.Omega.{arith}
 use mathlib.Core.Path.{_≡_, refl, sym, ap, _∙_}
-use mathlib.Core.Bool.{cond}
 use mathlib.Core.List.{List, [], _∷_}
-use lib.Dec.{eqb}
 use lib.ListN.{length, length-append}
 use borrow.Author.Needs.{needs}
-use borrow.Author.Tests.{eq-eqb, ne-eqb}
-use Rattle.standard.specs.declared.Written.{Written}
+use borrow.Author.Tests.{ne-eqb}
 use Rattle.standard.specs.Words.{laid}
 use Rattle.standard.proofs.Messages.{good-few}
 use Rattle.standard.proofs.Status.{status-is}
 use Rattle.log.specs.Log.{recordOf, keepRefusal, addedOf, afterKeep, Keeps}
-use Rattle.log.proofs.Refusing.{Taken, taken}
+use Rattle.log.proofs.Refusing.{taken}
 use Rattle.log.proofs.keep.Statement.{statement}
 use Rattle.log.proofs.keep.Tie as tie
 

@@ -1,18 +1,17 @@
 -- `log::keep_refusal` meets its contract: the tests in their order. Assumes nothing.
 use Prim.Native.Nat.{ℕ, _+_, _≤_}
-use native.Mathlib.Nat.{add-assoc}
 use native.Mathlib.Omega.{arith}
 use mathlib.Core.Path.{_≡_, sym, ap, _∙_}
 use mathlib.Core.Bool.{Bool, true, false, cond}
-use mathlib.Core.List.{List, [], _∷_}
+use mathlib.Core.List.{List}
 use lib.ListN.{length, take, length-append}
 use lib.Seq.{length-take-le}
 use borrow.Author.Needs.{needs}
 use borrow.Author.Tests.{not-true, not-false}
-use Rattle.standard.specs.Messages.{longestKnown, checkOf, isStatus}
+use Rattle.standard.specs.Messages.{checkOf}
 use Rattle.standard.proofs.Messages.{good-few}
 use Rattle.log.specs.Log.{recordOf, sound, beyond, keepRefusal}
-use Rattle.log.proofs.Refusing.{Inside, inside, keep-16, keep-17, keep-own, keep-18, keep-else}
+use Rattle.log.proofs.Refusing.{inside, keep-16, keep-17, keep-own, keep-18, keep-else}
 use Rattle.log.proofs.keep_refusal.Statement.{statement}
 use Rattle.log.proofs.keep_refusal.Tie as tie
 
@@ -64,7 +63,8 @@ returns-2 : tie.Need-returns-2
 returns-2 c =
     let past = past-1 (c .before) in
     let at = past .before in
-    sym (keep-17 (logOf at) (usedOf at) (messageOf at) (within past) (sym (c .before .is-sound .ensures) ∙ not-true _ (c .if2 .taken)))
+    sym (keep-17 (logOf at) (usedOf at) (messageOf at) (within past)
+    (sym (c .before .is-sound .ensures) ∙ not-true _ (c .if2 .taken)))
 
 check-requires : tie.Need-check-requires
 check-requires c κs = search needs

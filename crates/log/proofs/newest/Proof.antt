@@ -11,7 +11,8 @@ use Rattle.log.proofs.newest.Statement.{statement}
 use Rattle.log.proofs.newest.Tie as tie
 
 -- the part that is told
-part : (c : tie.After-find) → let a = c .before .before .args in Handed (a .log .now) (a .used) (a .zone) (c .find .result)
+part : (c : tie.After-find)
+    → let a = c .before .before .args in Handed (a .log .now) (a .used) (a .zone) (c .find .result)
 part c =
     let a = c .before .before .args in
     subst (Handed (a .log .now) (a .used) (a .zone)) (sym (c .find .ensures)) (handed (a .log .now) (a .used) (a .zone))

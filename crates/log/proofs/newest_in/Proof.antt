@@ -1,18 +1,16 @@
--- `log::newest_in` meets its contract. The loop's invariant: what is found before the end is found in the whole. Assumes
--- nothing.
-use Prim.Native.Nat.{ℕ, _-_, _≤_, _<_}
+-- `log::newest_in` meets its contract. The loop's invariant: what is found before the end is found in the whole.
+-- Assumes nothing.
+use Prim.Native.Nat.{ℕ, _-_, _≤_}
 use native.Mathlib.Nat.{le-refl}
 use native.Mathlib.Omega.{arith}
 use mathlib.Core.Path.{_≡_, sym, ap, ap₂, subst, _∙_}
-use mathlib.Core.Bool.{Bool}
 use mathlib.Core.List.{List}
 use lib.ListN.{length, take, drop}
 use lib.Seq.{take-length, length-take-le}
 use borrow.Author.Needs.{needs}
 use Rattle.standard.proofs.Status.{status-length}
-use Rattle.log.specs.declared.Found.{Found}
 use Rattle.log.specs.Log.{lastMessage, sound, about}
-use Rattle.log.specs.Places.{startOf, foundIn}
+use Rattle.log.specs.Places.{foundIn}
 use Rattle.log.proofs.Backwards.{Turn, turn, turn-stops, turn-message}
 use Rattle.log.proofs.Finding.{found-none, found-empty, found-other, found-here, found-unsound}
 use Rattle.log.proofs.newest_in.Statement.{statement}
@@ -131,7 +129,8 @@ returns-2 c =
     let told = at .before .record-start .ensures in
     let size = length-take-le (endOf at) (logOf at) (invOf at .within) in
     ap₂ (λ (s n : ℕ). record { number = 0; at = s; length = n - s }) told (sym size)
-    ∙ sym (found-here (take (endOf at) (logOf at)) (zoneOf at) (t .step) (sym (said (found .before)) ∙ found .if2 .taken)
+    ∙ sym (found-here (take (endOf at) (logOf at)) (zoneOf at) (t .step)
+    (sym (said (found .before)) ∙ found .if2 .taken)
     (ap sound (t .rest) ∙ sym (sounds .is-sound .ensures) ∙ c .if3 .taken))
     ∙ invOf at .same
 

@@ -1,12 +1,9 @@
 -- `log::put` meets its contract: the message is copied to its place, and its length stored behind it. Assumes nothing.
-use Prim.Native.Nat.{ℕ, _+_, _≤_, _<_}
+use Prim.Native.Nat.{_+_}
 use native.Mathlib.Omega.{arith}
-use mathlib.Core.Path.{_≡_, refl, sym, ap, _∙_}
-use mathlib.Core.List.{List, [], _∷_, _++_}
 use lib.ListN.{length, length-append}
 use borrow.Author.Needs.{needs}
 use Rattle.standard.proofs.Put.{copied-from, put-one, put-then, put-laid}
-use Rattle.log.specs.Log.{recordOf}
 use Rattle.log.proofs.put.Statement.{statement}
 use Rattle.log.proofs.put.Tie as tie
 

@@ -1,9 +1,8 @@
 -- `messages::is_status` meets its contract: an arm for each of the five numbers, and no other message is one. Assumes
 -- nothing.
-use Prim.Native.Nat.{ℕ, _%_}
+use Prim.Native.Nat.{ℕ}
 use native.Mathlib.Omega.{arith}
 use mathlib.Core.Path.{_≡_, refl, sym, ap, _∙_}
-use mathlib.Core.Bool.{true, false}
 use mathlib.Core.List.{List}
 use mathlib.Core.Logic.{inl}
 use lib.Dec.{eqb, leb}
@@ -11,9 +10,9 @@ use lib.ListN.{length}
 use borrow.Author.Tests.{ne-eqb}
 use borrow.Author.Needs.{needs}
 use Rattle.standard.specs.Words.{byte}
-use Rattle.standard.specs.Messages.{lengthFor, within, valuesOk}
+use Rattle.standard.specs.Messages.{lengthFor, valuesOk}
 use Rattle.standard.proofs.Messages.{values-offset, values-partition}
-use Rattle.standard.proofs.Status.{Five, sized, unsized, unchecked, none-status, other-status}
+use Rattle.standard.proofs.Status.{sized, unsized, unchecked, none-status, other-status}
 use Rattle.messages.proofs.is_status.Statement.{statement}
 use Rattle.messages.proofs.is_status.Tie as tie
 

@@ -1,0 +1,81 @@
+-- THE STATION LOG IN C'S NUMBERS: what a host makes of its buffer and its used length by `used += length`, which
+-- numbers it gets, and where a record stands. Assumes nothing.
+use Prim.Native.Nat.{ℕ, _+_, _≤_}
+use mathlib.Core.Path.{_≡_, sym, ap, subst, _∙_}
+use mathlib.Core.Bool.{true, cond}
+use mathlib.Core.List.{List, [], _∷_}
+use lib.Dec.{eqb}
+use lib.ListN.{length, take, drop}
+use borrow.Fn.Kinds.{Dens, endedOf, resT}
+use contract.Lifetimes.{Lfts}
+use denote.Ref.{now}
+use denote.Triple.Clauses.{AtExit}
+use Rattle.standard.specs.Messages.{among}
+use Rattle.log.specs.declared.Found.{Found}
+use Rattle.log.specs.Log.{newestOf, logRefusal, keepRefusal, addedOf}
+use Rattle.log.specs.Runs.{Station, empty, keeping, keepingAll}
+use Rattle.log.proofs.Refusing.{all-numbers}
+use Rattle.log.proofs.Finding.{handed}
+use Rattle.log.proofs.Keeping.{keep-numbers, all-asked, empty-asked}
+use Rattle.log.proofs.Newer.{none-at-0}
+use Rattle.nx584.specs.declared.CWritten.{CWritten}
+use Rattle.nx584.specs.declared.CFound.{CFound}
+use Rattle.nx584.specs.Station.{cFound}
+use Rattle.nx584.proofs.nx584_keep.Kinds as keep-kinds
+use Rattle.nx584.proofs.nx584_keep.Reads as keep
+use Rattle.nx584.proofs.nx584_newest.Kinds as newest-kinds
+use Rattle.nx584.proofs.nx584_newest.Reads as newest
+
+pub found-once : (f g : Found) → cFound f ≡ cFound g → f ≡ g
+found-once f g e = ap (λ (c : CFound). record { number = c .number; at = c .at; length = c .length }) e
+
+-- ---- keeping
+
+module _ (κs : Lfts 2) (a : Dens κs keep-kinds.ps) (e : AtExit (endedOf 2 keep-kinds.ps keep-kinds.r) κs)
+    (x : resT keep-kinds.r κs .Denot) (p : keep.Post κs a x e) where
+  -- `used += length` IS RIGHT AFTER EVERY CALL, refused or not: buffer and used length are then the station's
+  pub c-keeping : _≡_ {A = Station} (record { buffer = now (e .0); used = a .1 .0 + x .length })
+      (keeping (record { buffer = now (a .0); used = a .1 .0 }) (now (a .1 .1 .0)))
+  unfolding keeping
+  c-keeping = λ j. record { buffer = p .leaves j; used = a .1 .0 + p .says j .length }
+
+  -- every answer has one of these numbers
+  pub c-keep-numbers : among (x .number) (0 ∷ 16 ∷ 17 ∷ 4 ∷ 6 ∷ 7 ∷ 8 ∷ 18 ∷ 9 ∷ []) ≡ true
+  unfolding addedOf
+  c-keep-numbers =
+      ap (λ (w : CWritten). among (w .number) (0 ∷ 16 ∷ 17 ∷ 4 ∷ 6 ∷ 7 ∷ 8 ∷ 18 ∷ 9 ∷ [])) (p .says)
+      ∙ all-numbers (now (a .0)) (a .1 .0) (now (a .1 .1 .0))
+
+  -- A HOST THAT BEGAN WITH AN EMPTY LOG AND CHANGED IT BY THIS CALL ALONE never gets 16 or 17
+  pub c-kept-alone : (buffer : List ℕ) (ms : List (List ℕ))
+      → _≡_ {A = Station} (record { buffer = now (a .0); used = a .1 .0 }) (keepingAll (empty buffer) ms)
+      → among (x .number) (0 ∷ 4 ∷ 6 ∷ 7 ∷ 8 ∷ 18 ∷ 9 ∷ []) ≡ true
+  unfolding addedOf
+  c-kept-alone buffer ms s =
+      let asked = all-asked (empty buffer) ms (empty-asked buffer) in
+      let m = now (a .1 .1 .0) in
+      let t = keepingAll (empty buffer) ms in
+      ap (λ (w : CWritten). among (w .number) (0 ∷ 4 ∷ 6 ∷ 7 ∷ 8 ∷ 18 ∷ 9 ∷ [])) (p .says)
+      ∙ ap (λ (t : Station). among (keepRefusal (t .buffer) (t .used) m) (0 ∷ 4 ∷ 6 ∷ 7 ∷ 8 ∷ 18 ∷ 9 ∷ [])) s
+      ∙ keep-numbers (t .buffer) (t .used) m asked
+
+-- ---- finding
+
+module _ (κs : Lfts 1) (a : Dens κs newest-kinds.ps) (e : AtExit (endedOf 1 newest-kinds.ps newest-kinds.r) κs)
+    (x : resT newest-kinds.r κs .Denot) (p : newest.Post κs a x e) where
+  -- THE BYTES THAT C IS TOLD ARE WITHIN ITS BUFFER, and are the newest record
+  pub c-found-there : (x .at + x .length ≤ length (now (a .0)))
+      × (take (x .length) (drop (x .at) (now (a .0)))
+      ≡ cond (eqb (logRefusal (now (a .0)) (a .1 .0)) 0) (newestOf (take (a .1 .0) (now (a .0))) (a .1 .1 .0)) [])
+  c-found-there =
+      let h = handed (now (a .0)) (a .1 .0) (a .1 .1 .0) in
+      subst (λ (c : CFound). (c .at + c .length ≤ length (now (a .0)))
+      × (take (c .length) (drop (c .at) (now (a .0)))
+      ≡ cond (eqb (logRefusal (now (a .0)) (a .1 .0)) 0) (newestOf (take (a .1 .0) (now (a .0))) (a .1 .1 .0)) []))
+      (sym p) (h .within, h .part)
+
+  -- `at` is 0 where `length` is 0
+  pub c-at-0 : x .length ≡ 0 → x .at ≡ 0
+  c-at-0 z =
+      ap (λ (c : CFound). c .at) p
+      ∙ none-at-0 (now (a .0)) (a .1 .0) (a .1 .1 .0) (sym (ap (λ (c : CFound). c .length) p) ∙ z)
