@@ -147,9 +147,9 @@ fn keep_refusal(log: &[u8], used: usize, message: &[u8]) -> u8
     if !is_sound(&log[..used]) {
         return 17;
     }
-    let number = messages::check(message);
-    if number != 0 {
-        return number;
+    let own = messages::check(message);
+    if own != 0 {
+        return own;
     }
     if !messages::is_status(message) {
         return 18;

@@ -1,10 +1,12 @@
 // Document 01, "The 41 messages": the lengths by number, the checked values, and the verdict on a
 // message. Fields stand as in document 003, whose byte k is `message[k - 1]` here.
 ghost use mathlib.Core.Path.{_≡_};
+ghost use mathlib.Core.Bool.{true, cond};
 ghost use mathlib.Core.Logic.{_⊎_};
 ghost use Prim.Native.Nat.{_≤_};
+ghost use lib.Dec.{eqb};
 ghost use lib.ListN.{length};
-ghost use Rattle.standard.specs.Messages.{lengthFor, within, x10Ok, clockOk, valuesOk, checkOf, isStatus};
+ghost use Rattle.standard.specs.Messages.{lengthFor, within, x10Ok, clockOk, valuesOk, checkOf, statusNumber, isStatus};
 
 // The table of 64 message lengths, hexadecimal number and decimal length; 0: unrecognised.
 const LENGTHS: [u8; 64] = [
@@ -196,22 +198,45 @@ pub fn check(message: &[u8]) -> u8
     }
 }
 
+// The length of a message of one of the numbers 04 to 08.
+fn status_length(number: u8) -> u8
+    requires { ⌜ statusNumber number ≡ true ⌝ }
+    ensures { λ r. ⌜ r ≡ lengthFor number ⌝ }
+{
+    match number {
+        0x04 => length_for(0x04),
+        0x05 => length_for(0x05),
+        0x06 => length_for(0x06),
+        0x07 => length_for(0x07),
+        _ => length_for(0x08),
+    }
+}
+
+// The most that its second byte may be: "offset at most 240", "partition at most 7"; any for the rest.
+fn second_most(number: u8) -> u8
+    ensures { λ r. ⌜ r ≡ cond (eqb number 0x05) 240 (cond (eqb number 0x06) 7 255) ⌝ }
+{
+    match number {
+        0x05 => 240,
+        0x06 => 7,
+        _ => 255,
+    }
+}
+
 // Whether a message is good and of one of the numbers 04 to 08: no more is asked of it than `check`
-// would ask of these.
+// would ask of these. A log is thousands of them, one of any number after another, so that nothing
+// here goes by the number in a branch that nobody can foresee.
 pub fn is_status(message: &[u8]) -> bool
     ensures { λ r. ⌜ r ≡ isStatus (now (message .entry)) ⌝ }
 {
     let n = message.len();
-    if n == 0 {
+    if n < 2 {
         return false;
     }
     // A number with bit 6 set is none of them.
-    match message[0] % 128 {
-        0x04 => n == length_for(0x04) as usize,
-        0x05 => n == length_for(0x05) as usize && message[1] <= 240,
-        0x06 => n == length_for(0x06) as usize && message[1] <= 7,
-        0x07 => n == length_for(0x07) as usize,
-        0x08 => n == length_for(0x08) as usize,
-        _ => false,
+    let number = message[0] % 128;
+    if !between(4, number, 8) {
+        return false;
     }
+    (n == status_length(number) as usize) & (message[1] <= second_most(number))
 }

@@ -1,18 +1,18 @@
 -- Laws of `isStatus`: which messages are good and of numbers 04 to 08. Assumes nothing.
-use Prim.Native.Nat.{ℕ, _+_, _-_, _%_, _≤_, _<_}
+use Prim.Native.Nat.{ℕ, _%_, _≤_, _<_}
 use native.Mathlib.Omega.{arith}
 use mathlib.Core.Path.{_≡_, refl, sym, subst, _∙_}
-use mathlib.Core.Bool.{Bool, true, false, _&&_}
+use mathlib.Core.Bool.{Bool, true, false, cond, _&&_}
 use mathlib.Core.List.{List}
+use mathlib.Core.Logic.{inl}
 use lib.Dec.{eqb, leb, leb→le}
 use lib.ListN.{length}
-use borrow.Author.Tests.{eq-eqb, ne-eqb, eqb-true, leb-true}
+use borrow.Author.Tests.{eqb-true, eqb-false, leb-true, le-leb}
 use Rattle.standard.specs.Words.{byte}
 use Rattle.standard.specs.Messages.{known, lengthIn, numberOf, lengthFor, valuesOk, checkOf}
 use Rattle.standard.specs.Messages.{statusNumber, isStatus}
-use Rattle.standard.proofs.Tables.{below}
 use Rattle.standard.proofs.Messages.{both-true, and-true, low-length, number-length, good, passed, known-low}
-use Rattle.standard.proofs.Messages.{passed-number}
+use Rattle.standard.proofs.Messages.{passed-number, values-offset, values-partition}
 
 -- one of the five numbers
 pub record Five (n : ℕ) : Type 0 where
@@ -22,29 +22,54 @@ pub record Five (n : ℕ) : Type 0 where
 pub five : (n : ℕ) → statusNumber n ≡ true → Five n
 five n w = let b = both-true _ _ w in record { least = leb-true 0x04 n (b .0); most = leb-true n 0x08 (b .1) }
 
--- a message of one of them, bit 6 clear, is good where its length and its values are
-module _ (m : List ℕ) (n : ℕ) {ok : Bool} (e : byte 1 m % 128 ≡ n) (w : statusNumber n ≡ true)
-    (known : lengthFor n ≡ 0 → ⊥) (v : valuesOk n m ≡ ok) where
-  all : isStatus m ≡ (eqb (length m) (lengthFor n) && ok)
-  unfolding isStatus
-  all =
-      let b = five n w in
-      let low : n < 64 = let h = b .most in omega arith in
-      let number : numberOf (byte 1 m) ≡ n = omega arith in
-      let asks : lengthFor (byte 1 m) ≡ lengthFor n = low-length (byte 1 m) n e low ∙ sym (number-length n low) in
-      rw (good m (λ z. known (sym asks ∙ z)), number, asks, v, w) (and-true (eqb (length m) (lengthFor n) && ok))
+pub five-number : (n : ℕ) → Five n → statusNumber n ≡ true
+five-number n b = rw (le-leb 0x04 n (b .least), le-leb n 0x08 (b .most)) refl
 
-  pub sized : length m ≡ lengthFor n → isStatus m ≡ ok
-  sized h = all ∙ rw (eq-eqb (length m) (lengthFor n) h)
+-- what each of them has, one of them has
+of-five : (P : ℕ → Type 0) → P 0x04 → P 0x05 → P 0x06 → P 0x07 → P 0x08 → (n : ℕ) → Five n → P n
+of-five P a b c d e n f =
+    go (eqb n 0x04) refl (eqb n 0x05) refl (eqb n 0x06) refl (eqb n 0x07) refl
+  where
+    last : (n ≡ 0x04 → ⊥) → (n ≡ 0x05 → ⊥) → (n ≡ 0x06 → ⊥) → (n ≡ 0x07 → ⊥) → n ≡ 0x08
+    last p q r s = let least = f .least in let most = f .most in omega arith
 
-  pub unsized : (length m ≡ lengthFor n → ⊥) → isStatus m ≡ false
-  unsized h = all ∙ rw (ne-eqb (length m) (lengthFor n) h)
+    go : (p : Bool) → eqb n 0x04 ≡ p → (q : Bool) → eqb n 0x05 ≡ q → (r : Bool) → eqb n 0x06 ≡ r
+        → (s : Bool) → eqb n 0x07 ≡ s → P n
+    go true p q q′ r r′ s s′ = subst P (sym (eqb-true n 0x04 p)) a
+    go false p true q r r′ s s′ = subst P (sym (eqb-true n 0x05 q)) b
+    go false p false q true r s s′ = subst P (sym (eqb-true n 0x06 r)) c
+    go false p false q false r true s = subst P (sym (eqb-true n 0x07 s)) d
+    go false p false q false r false s =
+        subst P
+        (sym (last (eqb-false n 0x04 p) (eqb-false n 0x05 q) (eqb-false n 0x06 r) (eqb-false n 0x07 s))) e
 
--- with no value to check
-pub unchecked : (m : List ℕ) (n : ℕ) → byte 1 m % 128 ≡ n → statusNumber n ≡ true → (lengthFor n ≡ 0 → ⊥)
-    → valuesOk n m ≡ true
-    → isStatus m ≡ eqb (length m) (lengthFor n)
-unchecked m n e w known v = all m n e w known v ∙ and-true (eqb (length m) (lengthFor n))
+-- the checked values are in the second byte: "offset at most 240", "partition at most 7"
+values-second : (m : List ℕ) → byte 2 m < 256 → (n : ℕ) → Five n
+    → valuesOk n m ≡ leb (byte 2 m) (cond (eqb n 0x05) 240 (cond (eqb n 0x06) 7 255))
+unfolding valuesOk
+values-second m h =
+    let any : true ≡ leb (byte 2 m) 255 = sym (le-leb (byte 2 m) 255 (omega arith)) in
+    of-five (λ n. valuesOk n m ≡ leb (byte 2 m) (cond (eqb n 0x05) 240 (cond (eqb n 0x06) 7 255)))
+    any (values-offset m 0x05 (inl refl)) (values-partition m 0x06 (inl refl)) any any
+
+-- their lengths
+five-length : (n : ℕ) → Five n → 8 ≤ lengthIn known n
+five-length =
+    of-five (λ n. 8 ≤ lengthIn known n) (leb→le 8 8 tt) (leb→le 8 10 tt) (leb→le 8 9 tt) (leb→le 8 9 tt)
+    (leb→le 8 12 tt)
+
+-- a message of one of them, bit 6 clear, is good where its length and its second byte are
+pub status-by : (m : List ℕ) (n : ℕ) → byte 1 m % 128 ≡ n → statusNumber n ≡ true → byte 2 m < 256
+    → isStatus m
+    ≡ (eqb (length m) (lengthFor n) && leb (byte 2 m) (cond (eqb n 0x05) 240 (cond (eqb n 0x06) 7 255)))
+unfolding isStatus
+status-by m n e w h =
+    let b = five n w in
+    let low : n < 64 = let most = b .most in omega arith in
+    let number : numberOf (byte 1 m) ≡ n = omega arith in
+    let asks : lengthFor (byte 1 m) ≡ lengthFor n = low-length (byte 1 m) n e low ∙ sym (number-length n low) in
+    let long : 8 ≤ lengthFor n = subst (λ (k : ℕ). 8 ≤ k) (sym (number-length n low)) (five-length n b) in
+    rw (good m (λ z. let k = sym asks ∙ z in omega arith), number, asks, values-second m h n b, w) (and-true _)
 
 -- what is one is good and one of the five
 pub status-is : (m : List ℕ) → isStatus m ≡ true → (checkOf m ≡ 0) × Five (numberOf (byte 1 m))
@@ -61,10 +86,6 @@ not-status m h = go (eqb (checkOf m) 0) refl (statusNumber (numberOf (byte 1 m))
     go true p false q = refl
     go false p b q = refl
 
--- no message
-pub none-status : (m : List ℕ) → length m ≡ 0 → isStatus m ≡ false
-none-status m z = not-status m (λ h b. let s = passed m h .sized .some in omega arith)
-
 -- a message of another number, bit 6 counted in
 pub other-status : (m : List ℕ) → (Five (byte 1 m % 128) → ⊥) → isStatus m ≡ false
 other-status m other =
@@ -75,18 +96,16 @@ other-status m other =
     let k = b .most in
     other (record { least = omega arith; most = omega arith }))
 
--- the five lengths
-five-length : (n : ℕ) → Five n → 8 ≤ lengthIn known n
-five-length n b =
-    let least = b .least in
-    let most = b .most in
-    let e : 4 + (n - 4) ≡ n = omega arith in
-    subst (λ (k : ℕ). 8 ≤ lengthIn known k) e
-    (leb→le 8 _ (below (λ k. leb 8 (lengthIn known (4 + k))) 5 tt (n - 4) (omega arith)))
-
 -- so a message of them is not short
 pub status-length : (m : List ℕ) → isStatus m ≡ true → 8 ≤ length m
 status-length m h =
     let s = status-is m h in
     let n = numberOf (byte 1 m) in
     subst (λ (k : ℕ). 8 ≤ k) (sym (passed-number m n (passed m (s .0)) refl)) (five-length n (s .1))
+
+pub short-status : (m : List ℕ) → length m < 8 → isStatus m ≡ false
+short-status m h = go (isStatus m) refl
+  where
+    go : (t : Bool) → isStatus m ≡ t → t ≡ false
+    go false e = refl
+    go true e = let long = status-length m e in absurd (omega arith)
