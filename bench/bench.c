@@ -9,7 +9,8 @@
 
 enum { RUNS = 9, CAPTURE = 1 << 16, LONGEST_CAPTURE = 1 << 24, MESSAGES = 4096 };
 enum { LONGEST_FRAME = 2 * (NX584_LONGEST + 3) + 2 };
-enum { ANY = -1, COMMANDS = -2 }; /* kinds of messages, beside the single ones */
+enum { ANY = -1, COMMANDS = -2, KEPT = -3 };     /* kinds of messages, beside the single ones */
+enum { LOGS_BYTES = 1 << 18, RECORD_MOST = 13 }; /* of all logs of a line, and of a record */
 static const double LEAST_SECONDS = 0.01;
 
 /* ---- made inputs, the same for every library */
@@ -52,14 +53,24 @@ static size_t make_command(uint8_t *m)
     return lengths[which];
 }
 
-/* So many messages, of one kind, of any, or commands. */
+/* A message of one kind, of any, a command, or one that a log keeps. */
+static size_t make_of_kind(uint8_t *m, int kind)
+{
+    switch (kind) {
+    case ANY: return make_message(m, any_byte() % 8);
+    case COMMANDS: return make_command(m);
+    case KEPT: return make_message(m, any_byte() % 5);
+    default: return make_message(m, (unsigned)kind);
+    }
+}
+
+/* So many of them. */
 static messages make_messages(int kind, size_t count)
 {
     static uint8_t bytes[19 * MESSAGES];
     uint8_t *end = bytes;
     for (size_t k = 0; k < count; k++) {
-        size_t length = kind == COMMANDS ? make_command(end + 1)
-                                         : make_message(end + 1, kind == ANY ? any_byte() % 8 : (unsigned)kind);
+        size_t length = make_of_kind(end + 1, kind);
         *end = (uint8_t)length;
         end += 1 + length;
     }
@@ -147,9 +158,37 @@ static void make_long_frames(uint8_t framing, uint8_t *bytes, size_t length)
     memset(bytes + at, 0, length - at);
 }
 
+/* A log's record of a kind, about no zone above 128. */
+static size_t put_record(uint8_t *to, int kind)
+{
+    size_t length = make_of_kind(to, kind);
+    to[1] &= 0x7F;
+    to[length] = (uint8_t)length;
+    return length + 1;
+}
+
+/* A record of 04h, zone 0 for zone 1. */
+static size_t put_zone(uint8_t *to, uint8_t zone)
+{
+    size_t length = put_record(to, 0);
+    to[1] = zone;
+    return length;
+}
+
+/* Mixed records, with room for one more: zone 256 is heard first and not again, zone 1 last. */
+static size_t make_log(uint8_t *log, size_t length)
+{
+    size_t used = put_zone(log, 255);
+    while (used + 3 * RECORD_MOST <= length)
+        used += put_record(log + used, KEPT);
+    return used + put_zone(log + used, 0);
+}
+
 /* ---- the measurements */
 
 static uint8_t *capture, table[NX584_TABLE_BYTES];
+static station_log logs[LOGS_BYTES / (NX584_LOG_MOST / 4)];
+static size_t log_count;
 static nx584_slot slots[NX584_SLOTS];
 static messages made;
 
@@ -193,6 +232,21 @@ static void other_messages(size_t units)
     zone_status(units);
 }
 
+/* Full logs, so many bytes of them in all, and a message for each. With one log, walked again and again, a
+ * processor learns its branches, and those of a short log sooner: so lines that are compared walk as many records. */
+static void make_logs(size_t units, size_t length)
+{
+    log_count = units / length;
+    for (size_t k = 0; k < log_count; k++) {
+        uint8_t *log = capture + k * length;
+        logs[k] = (station_log){log, length, make_log(log, length)};
+    }
+    made = make_messages(KEPT, log_count);
+}
+
+static void full_logs(size_t units) { make_logs(units, NX584_LOG_MOST); }
+static void short_logs(size_t units) { make_logs(units, NX584_LOG_MOST / 4); }
+
 static void noise(size_t units)
 {
     for (size_t k = 0; k < units; k++)
@@ -218,6 +272,9 @@ static uint64_t hear(size_t units) { return loop_hear(0, table, capture, units);
 static uint64_t take(size_t units) { return (void)units, loop_take(slots, &made); }
 static uint64_t tick(size_t units) { return loop_tick(slots, units); }
 static uint64_t told(size_t units) { return (void)units, loop_told(slots, &made); }
+static uint64_t keep(size_t units) { return (void)units, loop_keep(logs, &made); }
+static uint64_t newest_heard_last(size_t units) { return (void)units, loop_newest(logs, log_count, 0); }
+static uint64_t newest_heard_first(size_t units) { return (void)units, loop_newest(logs, log_count, 255); }
 
 static const struct line {
     const char *what, *unit;
@@ -256,6 +313,11 @@ static const struct line {
     {"tick, eight waiting", "call", eight_waiting, tick, MESSAGES},
     {"told 1Dh, eight waiting", "call", acknowledges, told, MESSAGES},
     {"told 04h, eight waiting", "call", other_messages, told, MESSAGES},
+    {"keep, full log", "byte of it", full_logs, keep, LOGS_BYTES},
+    {"keep, full log of 16 KiB", "byte of it", short_logs, keep, LOGS_BYTES},
+    {"newest, full log, heard last", "byte of it", full_logs, newest_heard_last, LOGS_BYTES},
+    {"newest, full log, heard first", "byte of it", full_logs, newest_heard_first, LOGS_BYTES},
+    {"newest, full log of 16 KiB, heard first", "byte of it", short_logs, newest_heard_first, LOGS_BYTES},
     {"read binary, 1 KiB", "byte", binary_frames, read_binary, 1 << 10},
     {"read binary, 64 KiB", "byte", binary_frames, read_binary, 1 << 16},
     {"read binary, 16 MiB", "byte", binary_frames, read_binary, LONGEST_CAPTURE},

@@ -476,3 +476,93 @@ nx584_sending nx584_told(nx584_slot *slots, size_t slots_len, const uint8_t *mes
         repeat_front(&a, slots);
     return a;
 }
+
+/* ---- the station log (document 02, No. 6) */
+
+static int is_kept(uint8_t type)
+{
+    return (type & 0x3F) >= 0x04 && (type & 0x3F) <= 0x08;
+}
+
+/* The bytes of the record that ends at `end`, its trailer included; 0 where none does. */
+static size_t record_before(const uint8_t *log, size_t end)
+{
+    size_t n = log[end - 1];
+    if (n > end - 1)
+        return 0;
+    const uint8_t *message = log + end - 1 - n;
+    return refusal_of(message, n) == 0 && is_kept(message[0]) ? n + 1 : 0;
+}
+
+static int is_beyond(size_t log_len, size_t used)
+{
+    return used > log_len || used > NX584_LOG_MOST;
+}
+
+static int log_is_sound(const uint8_t *log, size_t used)
+{
+    while (used > 0) {
+        size_t n = record_before(log, used);
+        if (n == 0)
+            return 0;
+        used -= n;
+    }
+    return 1;
+}
+
+static uint8_t refusal_of_keep(const uint8_t *log, size_t log_len, size_t used, const uint8_t *message,
+                               size_t message_len)
+{
+    size_t most = log_len < NX584_LOG_MOST ? log_len : NX584_LOG_MOST;
+    if (is_beyond(log_len, used))
+        return 16;
+    if (!log_is_sound(log, used))
+        return 17;
+    uint8_t number = refusal_of(message, message_len);
+    if (number != 0)
+        return number;
+    if (!is_kept(message[0]))
+        return 18;
+    return most - used < message_len + 1 ? 9 : 0;
+}
+
+nx584_written nx584_keep(uint8_t *log, size_t log_len, size_t used, const uint8_t *message,
+                         size_t message_len)
+{
+    nx584_written w = {.number = refusal_of_keep(log, log_len, used, message, message_len)};
+    if (w.number != 0)
+        return w;
+    memcpy(log + used, message, message_len);
+    log[used + message_len] = (uint8_t)message_len;
+    w.length = message_len + 1;
+    return w;
+}
+
+static int is_about(const uint8_t *m, uint8_t zone)
+{
+    switch (m[0] & 0x3F) {
+    case 0x04: return m[1] == zone;
+    case 0x05: return m[1] <= zone && zone <= m[1] + 15;
+    default: return 0;
+    }
+}
+
+/* The walk goes on to the beginning where the record is found: the log may be unsound before it. */
+nx584_found nx584_newest(const uint8_t *log, size_t log_len, size_t used, uint8_t zone)
+{
+    nx584_found f = {.number = is_beyond(log_len, used) ? 16 : 0};
+    size_t end = f.number == 0 ? used : 0;
+    while (end > 0) {
+        size_t n = record_before(log, end);
+        if (n == 0) {
+            nx584_found refused = {.number = 17};
+            return refused;
+        }
+        end -= n;
+        if (f.length == 0 && is_about(log + end, zone)) {
+            f.at = end;
+            f.length = n;
+        }
+    }
+    return f;
+}

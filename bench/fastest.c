@@ -1074,3 +1074,175 @@ nx584_sending nx584_told(nx584_slot *slots, size_t slots_len, const uint8_t *mes
         return end_front(slots, count, number);
     return says(0, 0);
 }
+
+/* ---- the station log (document 02, No. 6): good records one after another, and nothing else. A record's length
+ * stands at its end, and its number at its beginning says it too, so that records are walked from both ends. */
+
+/* Of each number that is kept: the bytes of a record, the most that its second byte may be, and how many zones it
+ * is about from that one on. All other numbers have length 0. */
+static const struct kept {
+    _Alignas(4) uint8_t length;
+    uint8_t most, zones;
+} kept[128] = {
+    [0x04] = {9, 255, 1}, [0x05] = {11, 240, 16}, [0x06] = {10, 7, 0}, [0x07] = {10, 255, 0}, [0x08] = {13, 255, 0},
+};
+
+/* The length of the good record that ends at end and begins no earlier than begin, or 0. */
+ALWAYS size_t last_record(const uint8_t *begin, const uint8_t *end)
+{
+    size_t n = end[-1] + 1u;
+    if (n > (size_t)(end - begin))
+        return 0;
+    const uint8_t *m = end - n;
+    struct kept k = kept[m[0] & 0x7F];
+    return k.length == n && m[1] <= k.most ? n : 0;
+}
+
+/* The length of the good record that begins at begin and ends no later than end, or 0. */
+ALWAYS size_t first_record(const uint8_t *begin, const uint8_t *end)
+{
+    struct kept k = kept[begin[0] & 0x7F];
+    size_t n = k.length;
+    if (n - 1 >= (size_t)(end - begin))
+        return 0;
+    return begin[n - 1] == n - 1 && begin[1] <= k.most ? n : 0;
+}
+
+enum { NO_ZONE = -1 };
+
+ALWAYS int is_about(const uint8_t *m, int zone)
+{
+    return zone != NO_ZONE && (unsigned)zone - m[1] < kept[m[0] & 0x7F].zones;
+}
+
+/* What is left of a part of a log; and the newest record about the zone of those that were walked from the part's
+ * beginning, and of those from its end. */
+typedef struct {
+    const uint8_t *begin, *end, *early, *late;
+} walk;
+
+/* A record from the end, and one from the beginning; 0 where one of them is not good, or none is left for it. The
+ * second look is at a byte of the log even then: the first one's first. */
+ALWAYS int step(walk *w, int zone)
+{
+    size_t n = last_record(w->begin, w->end);
+    if (n == 0)
+        return 0;
+    w->end -= n;
+    if (!w->late && is_about(w->end, zone))
+        w->late = w->end;
+    n = first_record(w->begin, w->end);
+    if (n == 0)
+        return 0;
+    if (is_about(w->begin, zone))
+        w->early = w->begin;
+    w->begin += n;
+    return 1;
+}
+
+/* Whether the two ways meet, and all between was good. */
+ALWAYS int meets(walk *w, int zone)
+{
+    while (w->begin < w->end)
+        if (!step(w, zone))
+            break;
+    return w->begin == w->end;
+}
+
+ALWAYS const uint8_t *newest_of(const walk *w)
+{
+    return w->late ? w->late : w->early;
+}
+
+/* Whether four good records follow one another: where a record begins they do, and elsewhere hardly ever. */
+ALWAYS int seems_record(const uint8_t *at, const uint8_t *end)
+{
+    for (int k = 0; k < 4; k++) {
+        size_t n = first_record(at, end);
+        if (n == 0)
+            return 0;
+        at += n;
+    }
+    return 1;
+}
+
+/* Where a record seems to begin behind the middle of a log; its beginning where none does, or the log is short. */
+static const uint8_t *near_middle(const uint8_t *log, size_t used)
+{
+    const uint8_t *half = log + used / 2;
+    for (int k = 0; used >= 256 && k < 13; k++)
+        if (seems_record(half + k, log + used))
+            return half + k;
+    return log;
+}
+
+/* Two parts at once: four ways that do not wait for each other. */
+ALWAYS int both_meet(walk *older, walk *newer, int zone)
+{
+    while (older->begin < older->end && newer->begin < newer->end)
+        if (!step(older, zone) || !step(newer, zone))
+            break;
+    return meets(older, zone) && meets(newer, zone);
+}
+
+/* Whether a log is sound; found is its newest record about the zone, or NULL. Where no record begins at the middle,
+ * the two parts say nothing of the whole. */
+ALWAYS int walk_log(const uint8_t *log, size_t used, int zone, const uint8_t **found)
+{
+    const uint8_t *middle = near_middle(log, used), *end = log + used;
+    walk older = {log, middle, NULL, NULL}, newer = {middle, end, NULL, NULL}, whole = {log, end, NULL, NULL};
+    if (both_meet(&older, &newer, zone)) {
+        *found = newest_of(&newer) ? newest_of(&newer) : newest_of(&older);
+        return 1;
+    }
+    if (middle == log || !meets(&whole, zone))
+        return 0;
+    *found = newest_of(&whole);
+    return 1;
+}
+
+/* How many bytes of a buffer a log may use. */
+ALWAYS size_t log_most(size_t log_len)
+{
+    return log_len < NX584_LOG_MOST ? log_len : NX584_LOG_MOST;
+}
+
+nx584_written nx584_keep(uint8_t *log, size_t log_len, size_t used, const uint8_t *message,
+                         size_t message_len)
+{
+    nx584_written w = {0};
+    const uint8_t *found;
+    if (used > log_most(log_len))
+        w.number = 16;
+    else if (used > 0 && !walk_log(log, used, NO_ZONE, &found))
+        w.number = 17;
+    else
+        w.number = refusal_of(message, message_len);
+    if (w.number == 0 && kept[message[0] & 0x7F].length == 0)
+        w.number = 18;
+    if (w.number == 0 && message_len >= log_most(log_len) - used)
+        w.number = 9;
+    if (w.number != 0)
+        return w;
+    uint64_t head = load(message), tail = load(message + message_len - 8); /* 8 is the least of the five lengths */
+    memcpy(log + used, &head, 8);
+    memcpy(log + used + message_len - 8, &tail, 8);
+    log[used + message_len] = (uint8_t)message_len;
+    w.length = message_len + 1;
+    return w;
+}
+
+nx584_found nx584_newest(const uint8_t *log, size_t log_len, size_t used, uint8_t zone)
+{
+    nx584_found f = {0};
+    const uint8_t *record = NULL;
+    if (used > log_most(log_len)) {
+        f.number = 16;
+    } else if (used > 0 && !walk_log(log, used, zone, &record)) {
+        f.number = 17;
+    } else if (record) {
+        f.at = (size_t)(record - log);
+        f.length = kept[record[0] & 0x7F].length;
+    }
+    return f;
+}

@@ -141,6 +141,28 @@ uint64_t loop_told(nx584_slot *slots, const messages *list)
     return sum;
 }
 
+uint64_t loop_keep(const station_log *logs, const messages *list)
+{
+    uint64_t sum = 0;
+    const uint8_t *m = list->bytes;
+    for (size_t k = 0; k < list->count; k++, m += 1 + *m) {
+        const uint8_t *record = logs[k].bytes + logs[k].used;
+        nx584_written w = nx584_keep(logs[k].bytes, logs[k].length, logs[k].used, m + 1, *m);
+        sum = mix(sum, w.length << 24 | (uint64_t)w.number << 16 | record[*m - 1] << 8 | record[*m]);
+    }
+    return sum;
+}
+
+uint64_t loop_newest(const station_log *logs, size_t count, uint8_t zone)
+{
+    uint64_t sum = 0;
+    for (size_t k = 0; k < count; k++) {
+        nx584_found f = nx584_newest(logs[k].bytes, logs[k].length, logs[k].used, zone);
+        sum = mix(sum, f.at << 16 | f.length << 8 | f.number);
+    }
+    return sum;
+}
+
 size_t reader_bytes(void)
 {
     return sizeof(nx584_reader);

@@ -25,6 +25,16 @@ uint64_t loop_hear(uint8_t framing, uint8_t *table, const uint8_t *bytes, size_t
 uint64_t loop_take(nx584_slot *slots, const messages *list);
 uint64_t loop_tick(nx584_slot *slots, size_t times);
 uint64_t loop_told(nx584_slot *slots, const messages *list);
+
+/* A log: its buffer, and how much of it is used. */
+typedef struct {
+    uint8_t *bytes;
+    size_t length, used;
+} station_log;
+
+/* A message is kept in each log, and over it the next time, since `used` stays; each is asked for the zone. */
+uint64_t loop_keep(const station_log *logs, const messages *list);
+uint64_t loop_newest(const station_log *logs, size_t count, uint8_t zone);
 size_t reader_bytes(void);
 
 #endif

@@ -3,13 +3,14 @@
 
 use std::slice;
 
-const VERSION: u32 = 4;
+const VERSION: u32 = 5;
 const LONGEST: usize = 255;
 /// Of the 41 messages, and so of what is written and handed out.
 const LONGEST_GOOD: usize = 18;
 const TABLE_BYTES: usize = 2132;
 const SLOTS: usize = 8;
 const LONGEST_COMMAND: usize = 13;
+const LOG_MOST: usize = 65536;
 const NONE: u8 = 255;
 const STRICT: u8 = 0;
 const LENIENT: u8 = 1;
@@ -128,6 +129,13 @@ pub struct Sending {
     ended: u8,
     length: u8,
     message: [u8; LONGEST_COMMAND],
+}
+
+#[repr(C)]
+pub struct Found {
+    number: u8,
+    at: usize,
+    length: usize,
 }
 
 // ---- messages
@@ -694,6 +702,68 @@ fn told(slots: &mut [Slot], message: &[u8]) -> Sending {
     }
 }
 
+// ---- the station log
+
+fn is_kept(type_byte: u8) -> bool {
+    matches!(type_byte & 0x3F, 0x04..=0x08)
+}
+
+fn is_about(message: &[u8], zone: u8) -> bool {
+    match message[0] & 0x3F {
+        0x04 => message[1] == zone,
+        0x05 => (message[1]..=message[1] + 15).contains(&zone),
+        _ => false,
+    }
+}
+
+/// What stands before a log's newest record, and that record's message; none where it is not good.
+fn split_newest(log: &[u8]) -> Option<(&[u8], &[u8])> {
+    let (&trailer, rest) = log.split_last()?;
+    let (older, message) = rest.split_at(rest.len().checked_sub(usize::from(trailer))?);
+    (verdict_of(message) == 0 && is_kept(message[0])).then_some((older, message))
+}
+
+/// Each record from the newest one back: where it begins, and its message. 17 where the log is not sound.
+fn walk(log: &[u8], mut visit: impl FnMut(usize, &[u8])) -> Result<(), u8> {
+    let mut left = log;
+    while !left.is_empty() {
+        let (older, message) = split_newest(left).ok_or(17)?;
+        visit(older.len(), message);
+        left = older;
+    }
+    Ok(())
+}
+
+/// What is used of a log, or 16.
+fn used_part(log: &[u8], used: usize) -> Result<&[u8], u8> {
+    log.get(..used).filter(|part| part.len() <= LOG_MOST).ok_or(16)
+}
+
+fn keep(log: &mut [u8], used: usize, message: &[u8]) -> Result<usize, u8> {
+    walk(used_part(log, used)?, |_, _| {})?;
+    match verdict_of(message) {
+        0 if !is_kept(message[0]) => return Err(18),
+        0 => {}
+        verdict => return Err(verdict),
+    }
+    let most = log.len().min(LOG_MOST);
+    let record = log[used..most].get_mut(..message.len() + 1).ok_or(9)?;
+    record[..message.len()].copy_from_slice(message);
+    record[message.len()] = message.len() as u8;
+    Ok(record.len())
+}
+
+/// Where the record begins, and its length; 0 and 0 where there is none.
+fn newest(log: &[u8], used: usize, zone: u8) -> Result<(usize, usize), u8> {
+    let mut found = None;
+    walk(used_part(log, used)?, |at, message| {
+        if found.is_none() && is_about(message, zone) {
+            found = Some((at, message.len() + 1));
+        }
+    })?;
+    Ok(found.unwrap_or((0, 0)))
+}
+
 // ---- what C calls
 
 /// The bytes that C lends; NULL comes with length 0.
@@ -844,4 +914,30 @@ pub unsafe extern "C" fn nx584_told(
     message_length: usize,
 ) -> Sending {
     told(lent_mut(slots, slots_length), lent(message, message_length))
+}
+
+/// # Safety
+/// As nx584.h says: pointers are valid for their lengths, and the buffers do not overlap.
+#[no_mangle]
+pub unsafe extern "C" fn nx584_keep(
+    log: *mut u8,
+    log_length: usize,
+    used: usize,
+    message: *const u8,
+    message_length: usize,
+) -> Written {
+    match keep(lent_mut(log, log_length), used, lent(message, message_length)) {
+        Ok(length) => Written { number: 0, length },
+        Err(number) => Written { number, length: 0 },
+    }
+}
+
+/// # Safety
+/// As nx584.h says: pointers are valid for their lengths.
+#[no_mangle]
+pub unsafe extern "C" fn nx584_newest(log: *const u8, log_length: usize, used: usize, zone: u8) -> Found {
+    match newest(lent(log, log_length), used, zone) {
+        Ok((at, length)) => Found { number: 0, at, length },
+        Err(number) => Found { number, at: 0, length: 0 },
+    }
 }

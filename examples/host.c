@@ -1,5 +1,5 @@
-/* A unit's main loop over libnx584: hear the gateway, answer it, keep the table, send commands until they are
- * acknowledged. The text below says how it is used. Linux; build it as the top of nx584.h says. */
+/* A unit's main loop over libnx584: hear the gateway, answer it, keep the table and a log, send commands until they
+ * are acknowledged. The text below says how it is used. Linux; build it as the top of nx584.h says. */
 #define _GNU_SOURCE /* ppoll */
 #include "nx584.h"
 
@@ -15,18 +15,22 @@
 #include <unistd.h>
 
 static const char usage[] =
-    "usage: host [--ascii] [--speed N] [--wait MS] [--table FILE] [--commands FILE] [--tick MS] [LINE]\n"
+    "usage: host [--ascii] [--speed N] [--wait MS] [--table FILE] [--log FILE] [--commands FILE] [--tick MS] [LINE]\n"
     "Hears a gateway on LINE, a terminal as /dev/ttyS0, and answers it there. Without one it hears standard\n"
     "input and answers on standard output.\n"
     "  --ascii          the gateway speaks ASCII; else binary\n"
     "  --speed N        the line's speed, 600 to 115200 baud (9600); always 8 data bits, no parity, 1 stop bit\n"
     "  --wait MS        between two tries to open a line that went away (1000)\n"
     "  --table FILE     write the table there at the end\n"
+    "  --log FILE       write the log there at the end: the messages 04 to 08 that were heard, oldest first, each\n"
+    "                   followed by one byte that holds its length; 65536 bytes at most\n"
     "  --commands FILE  send the commands of FILE, up to its end: in each line one message in hexadecimal, as\n"
     "                   3F 09 for a bypass of zone 10. A FIFO does, and /dev/fd/3 is descriptor 3\n"
     "  --tick MS        between two ticks (500): a command is sent again after six without an answer\n"
     "How each command ended goes to standard error, with the number of its line in FILE; eight wait at most, and\n"
     "lines beyond them are read when one has ended.\n"
+    "A line of FILE may also ask what was last heard about a zone, 1 to 256, as zone 10 does. The answer goes to\n"
+    "standard error, at once, also while eight commands wait; a question behind a ninth waits with it.\n"
     "The overview goes to standard error at the end and whenever SIGUSR1 comes. SIGINT, SIGTERM and SIGHUP\n"
     "end the program; a terminal then has its settings of before.\n"
     "Status: 0 ended well, 1 the line or a file failed, 2 wrong use.\n";
@@ -35,7 +39,7 @@ enum { COMMAND_TEXT = 1024 }; /* more than the longest line that can be a messag
 
 struct unit {
     const char *line; /* NULL: standard input and output */
-    const char *table_file;
+    const char *table_file, *log_file;
     uint8_t framing;
     speed_t speed;
     int wait;        /* milliseconds */
@@ -46,6 +50,9 @@ struct unit {
     int status, at_end;
     nx584_reader reader;
     uint8_t table[NX584_TABLE_BYTES];
+    uint8_t log[NX584_LOG_MOST];
+    size_t log_used;
+    int is_log_full;
     nx584_slot slots[NX584_SLOTS];
     unsigned long lines[NX584_SLOTS]; /* of each command that waits, the number of its line */
     int tick;                         /* milliseconds */
@@ -284,6 +291,51 @@ static void tick_in_time(struct unit *u) {
     follow(u, nx584_tick(u->slots, NX584_SLOTS), front);
 }
 
+/* ---- the log */
+
+/* Of every good message: one that a log does not keep is refused with 18, and nobody needs to know. The first that
+ * has no room ends it, though a shorter one might have some: a log has no gaps. */
+static void keep(struct unit *u, const uint8_t *message, size_t length) {
+    if (u->is_log_full)
+        return;
+    nx584_written w = nx584_keep(u->log, sizeof u->log, u->log_used, message, length);
+    u->log_used += w.length;
+    u->is_log_full = w.number == NX584_NO_ROOM;
+    if (u->is_log_full)
+        fprintf(stderr, "host: the log is full; nothing more is kept\n");
+}
+
+static void show_flags(uint8_t flags) {
+    fprintf(stderr, "%s%s%s%s%s\n", flags == 0 ? " in order" : "", flags & NX584_FAULTED ? " faulted" : "",
+            flags & NX584_BYPASS ? " bypass" : "", flags & NX584_TROUBLE ? " trouble" : "",
+            flags & NX584_ALARM_MEMORY ? " alarm memory" : "");
+}
+
+/* What a message says of a zone is what a fresh table has of it afterwards. */
+static uint8_t flags_in(const uint8_t *message, size_t length, uint8_t zone) {
+    uint8_t table[NX584_TABLE_BYTES];
+    memset(table, 0, sizeof table);
+    nx584_apply(table, sizeof table, message, length);
+    return nx584_zone(table, sizeof table, zone).flags;
+}
+
+/* What was last heard about a zone. The library refuses no log that nx584_keep alone has changed. */
+static void show_newest(const struct unit *u, uint8_t zone) {
+    const char *until = u->is_log_full ? " before the log was full" : "";
+    nx584_found f = nx584_newest(u->log, sizeof u->log, u->log_used, zone);
+    if (f.length == 0) {
+        fprintf(stderr, "host: zone %d was not heard%s\n", zone + 1, until);
+        return;
+    }
+    const uint8_t *message = u->log + f.at;
+    size_t length = f.length - 1; /* without the trailer */
+    fprintf(stderr, "host: zone %d was last heard%s in", zone + 1, until);
+    for (size_t k = 0; k < length; k++)
+        fprintf(stderr, " %02X", message[k]);
+    fprintf(stderr, ":");
+    show_flags(flags_in(message, length, zone));
+}
+
 /* ---- the commands' file */
 
 static int digit(char c) {
@@ -294,11 +346,37 @@ static int digit(char c) {
     return c >= 'a' && c <= 'f' ? c - 'a' + 10 : -1;
 }
 
+static int is_blank(char c) {
+    return c == ' ' || c == '\t' || c == '\r';
+}
+
+static size_t past_blanks(const char *text, size_t count, size_t at) {
+    while (at < count && is_blank(text[at]))
+        at++;
+    return at;
+}
+
+/* The zone that a line asks about, from 1 on, as zone 10 does; 0 where it names none, -1 where it is no question. */
+static int zone_of(const char *text, size_t count) {
+    size_t at = past_blanks(text, count, 0), end;
+    int zone = 0;
+    for (const char *word = "zone"; *word; word++, at++)
+        if (at == count || text[at] != *word)
+            return -1;
+    end = at;
+    at = past_blanks(text, count, end);
+    if (at == end)
+        return 0;
+    for (; at < count && text[at] >= '0' && text[at] <= '9' && zone <= NX584_ZONES; at++)
+        zone = 10 * zone + text[at] - '0';
+    return past_blanks(text, count, at) == count && zone <= NX584_ZONES ? zone : 0;
+}
+
 /* How many bytes a line has, with blanks between them or none; -1 where it is something else. */
 static int bytes_of(const char *text, size_t count, uint8_t *bytes) {
     int n = 0;
     for (size_t k = 0; k < count; k++) {
-        if (text[k] == ' ' || text[k] == '\t' || text[k] == '\r')
+        if (is_blank(text[k]))
             continue;
         int high = digit(text[k]), low = k + 1 < count ? digit(text[k + 1]) : -1;
         if (high < 0 || low < 0)
@@ -309,33 +387,52 @@ static int bytes_of(const char *text, size_t count, uint8_t *bytes) {
     return n;
 }
 
-static void take_line(struct unit *u, const char *text, size_t count) {
+static void take_bytes(struct unit *u, const char *text, size_t count) {
     uint8_t bytes[COMMAND_TEXT / 2];
     int n = u->is_overlong ? -1 : bytes_of(text, count, bytes);
     u->is_overlong = 0;
-    u->line_number++;
     if (n < 0)
         fprintf(stderr, "host: command %lu refused: it is not written as bytes in hexadecimal\n", u->line_number);
     if (n > 0)
         take_command(u, bytes, (size_t)n);
 }
 
-/* The lines that were read, as long as a slot is free. */
+/* Whether it was taken: a question needs no slot, any other line waits for a free one. */
+static int take_line(struct unit *u, const char *text, size_t count) {
+    int zone = u->is_overlong ? -1 : zone_of(text, count);
+    if (zone < 0 && waiting(u) == NX584_SLOTS)
+        return 0;
+    u->line_number++;
+    if (zone < 0)
+        take_bytes(u, text, count);
+    else if (zone == 0)
+        fprintf(stderr, "host: command %lu refused: it names no zone from 1 to %d\n", u->line_number, NX584_ZONES);
+    else
+        show_newest(u, (uint8_t)(zone - 1));
+    return 1;
+}
+
+static char *end_of_line(struct unit *u) {
+    return memchr(u->text, '\n', u->text_count);
+}
+
+/* The lines that were read, up to one that waits. */
 static void take_lines(struct unit *u) {
     char *end;
-    while (waiting(u) < NX584_SLOTS && (end = memchr(u->text, '\n', u->text_count)) != NULL) {
+    while ((end = end_of_line(u)) != NULL) {
         size_t count = (size_t)(end - u->text);
-        take_line(u, u->text, count);
+        if (!take_line(u, u->text, count))
+            return;
         u->text_count -= count + 1;
         memmove(u->text, end + 1, u->text_count);
     }
-    if (u->text_count == sizeof u->text && !memchr(u->text, '\n', u->text_count)) {
+    if (u->text_count == sizeof u->text) {
         u->is_overlong = 1;
         u->text_count = 0;
     }
 }
 
-/* Only where a slot is free: then no whole line is in the text, and it has room. */
+/* Only where no line waits: then no whole one is in the text, and it has room. */
 static void read_commands(struct unit *u) {
     ssize_t n = read(u->commands, u->text + u->text_count, sizeof u->text - u->text_count);
     if (n > 0)
@@ -371,8 +468,10 @@ static void hear(struct unit *u, const uint8_t *bytes, size_t count) {
         at += h.used; /* what is unused is handed in again */
         if (h.reply != NX584_NO_REPLY)
             send_message(u, &h.reply, 1);
-        if (h.verdict == NX584_GOOD)
+        if (h.verdict == NX584_GOOD) {
+            keep(u, h.message, h.length);
             tell(u, h.message, h.length);
+        }
     }
 }
 
@@ -404,9 +503,8 @@ static void show_zone(const uint8_t *table, int zone) {
     nx584_zone_record z = nx584_zone(table, NX584_TABLE_BYTES, (uint8_t)zone);
     if (!(z.mark & NX584_HEARD) || z.flags == 0)
         return;
-    fprintf(stderr, "zone %d:%s%s%s%s\n", zone + 1, z.flags & NX584_FAULTED ? " faulted" : "",
-            z.flags & NX584_BYPASS ? " bypass" : "", z.flags & NX584_TROUBLE ? " trouble" : "",
-            z.flags & NX584_ALARM_MEMORY ? " alarm memory" : "");
+    fprintf(stderr, "zone %d:", zone + 1);
+    show_flags(z.flags);
 }
 
 static void show_partition(const uint8_t *table, int partition) {
@@ -429,12 +527,12 @@ static void show(const uint8_t *table) {
         show_partition(table, k);
 }
 
-static int write_table(const struct unit *u) {
-    FILE *file = fopen(u->table_file, "wb");
-    size_t written = file ? fwrite(u->table, 1, sizeof u->table, file) : 0;
-    if (file && fclose(file) == 0 && written == sizeof u->table)
+static int write_file(const char *name, const uint8_t *bytes, size_t count) {
+    FILE *file = fopen(name, "wb");
+    size_t written = file ? fwrite(bytes, 1, count, file) : 0;
+    if (file && fclose(file) == 0 && written == count)
         return 0;
-    fprintf(stderr, "host: cannot write %s: %s\n", u->table_file, strerror(errno));
+    fprintf(stderr, "host: cannot write %s: %s\n", name, strerror(errno));
     return 1;
 }
 
@@ -473,6 +571,10 @@ static int take_option(struct unit *u, const char *option, const char *value) {
         return 0;
     if (strcmp(option, "--table") == 0) {
         u->table_file = value;
+        return 2;
+    }
+    if (strcmp(option, "--log") == 0) {
+        u->log_file = value;
         return 2;
     }
     if (strcmp(option, "--commands") == 0) {
@@ -524,10 +626,10 @@ static int patience(const struct unit *u) {
     return tick < retry ? tick : retry;
 }
 
-/* A turn waits once: for bytes, for commands where a slot is free, for a tick, or to try a line that is away.
+/* A turn waits once: for bytes, for commands where no line of them waits, for a tick, or to try a line that is away.
  * It reads little of each, so that none waits long for the others. A signal ends every wait. */
 static void take_turn(struct unit *u) {
-    struct pollfd polls[] = {{u->in, POLLIN, 0}, {waiting(u) < NX584_SLOTS ? u->commands : -1, POLLIN, 0}};
+    struct pollfd polls[] = {{u->in, POLLIN, 0}, {end_of_line(u) ? -1 : u->commands, POLLIN, 0}};
     if (wait_for_any(polls, 2, patience(u)) < 0)
         lose_line(u, errno);
     else if (polls[0].revents)
@@ -555,7 +657,7 @@ static void run(struct unit *u) {
 }
 
 int main(int argc, char **argv) {
-    static struct unit u; /* a table of zeros is fresh */
+    static struct unit u; /* a table of zeros is fresh, and a log of which none is used is empty */
     u.speed = B9600;
     u.wait = 1000;
     u.tick = 500;
@@ -575,7 +677,9 @@ int main(int argc, char **argv) {
     run(&u);
     put_back(&u);
     show(u.table);
-    if (u.table_file && write_table(&u) != 0)
+    if (u.table_file && write_file(u.table_file, u.table, sizeof u.table) != 0)
+        u.status = 1;
+    if (u.log_file && write_file(u.log_file, u.log, u.log_used) != 0)
         u.status = 1;
     return u.status;
 }

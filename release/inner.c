@@ -81,3 +81,13 @@ void nx584_cross_told(nx584_sending *answer, nx584_slot *slots, uint64_t slots_l
 {
     *answer = nx584_told(slots, slots_len, message, message_len);
 }
+
+void nx584_cross_keep(nx584_written *answer, uint8_t *log, uint64_t log_len, uint64_t used, const uint8_t *message, uint64_t message_len)
+{
+    *answer = nx584_keep(log, log_len, used, message, message_len);
+}
+
+void nx584_cross_newest(nx584_found *answer, const uint8_t *log, uint64_t log_len, uint64_t used, uint64_t zone)
+{
+    *answer = nx584_newest(log, log_len, used, (uint8_t)zone);
+}

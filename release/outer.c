@@ -106,3 +106,17 @@ nx584_sending nx584_told(nx584_slot *slots, size_t slots_len, const uint8_t *mes
     nx584_cross_told(&answer, slots, slots_len, message, message_len);
     return answer;
 }
+
+nx584_written nx584_keep(uint8_t *log, size_t log_len, size_t used, const uint8_t *message, size_t message_len)
+{
+    nx584_written answer;
+    nx584_cross_keep(&answer, log, log_len, used, message, message_len);
+    return answer;
+}
+
+nx584_found nx584_newest(const uint8_t *log, size_t log_len, size_t used, uint8_t zone)
+{
+    nx584_found answer;
+    nx584_cross_newest(&answer, log, log_len, used, zone);
+    return answer;
+}

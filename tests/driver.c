@@ -7,7 +7,9 @@
  * bytes and then its bytes; slots are a buffer of 16 bytes for each. An answer is the function's result,
  * field by field in the header's order.
  * After a buffer that is lent for writing, the answer has its bytes, and before them one byte: 1 if no
- * byte beside the buffer was touched.
+ * byte beside the buffer was touched. A log may be long, so of its bytes the answer has what changed: all
+ * are compared with what they were, and those from the first that differs to the last are a place of 8
+ * bytes and a buffer.
  *
  *   fresh  framing                  reader                 keeps the reader
  *   fresh_lenient  framing          reader                 keeps the reader
@@ -18,25 +20,29 @@
  *   apply  [table] message          number, beside[, table]
  *   view   [table]                  overview
  *   hear   [reader table] bytes     hearing, beside[, table]
- *   keep   table                    nothing                keeps the table
+ *   lend_table table                nothing                keeps the table
  *   show                            the kept table
  *   version                         number, 4 bytes
  *   zone   [table] zone             record
  *   partition [table] partition     record
  *   system [table]                  record
- *   lend   slots                    nothing                keeps the slots
+ *   lend_slots slots                nothing                keeps the slots
  *   take   [slots] message          sending, beside, slots
  *   tick   [slots]                  sending, beside, slots
  *   told   [slots] message          sending, beside, slots
+ *   lend_log log                    nothing                keeps the log
+ *   change place byte               nothing                puts the byte into the kept log
+ *   keep   [log] used message       written, beside, changed
+ *   newest [log] used zone          found, beside, changed
  *
- * With the flag KEPT a call has no operand in brackets: it takes the kept reader, table or slots, and
- * keeps the next reader, the table and the slots as they come back. With the flag NULLS an empty buffer is passed as
- * NULL. The end of the input, between two calls, ends the program with status 0; what is no call ends
- * it with another. */
+ * With the flag KEPT a call has no operand in brackets: it takes the kept reader, table, slots or log, and
+ * keeps the next reader, the table, the slots and the log as they come back. With the flag NULLS an empty
+ * buffer is passed as NULL. The end of the input, between two calls, ends the program with status 0; what
+ * is no call ends it with another. */
 #include "nx584.h"
 
-enum { FRESH = 1, STEP, READ, WRITE, REPLY, APPLY, VIEW, HEAR, KEEP, SHOW, VERSION, ZONE, PARTITION, SYSTEM };
-enum { LEND = SYSTEM + 1, TAKE, TICK, TOLD, FRESH_LENIENT };
+enum { FRESH = 1, STEP, READ, WRITE, REPLY, APPLY, VIEW, HEAR, LEND_TABLE, SHOW, VERSION, ZONE, PARTITION, SYSTEM };
+enum { LEND_SLOTS = SYSTEM + 1, TAKE, TICK, TOLD, FRESH_LENIENT, LEND_LOG, CHANGE, KEEP, NEWEST };
 enum { FUNCTION = 0x1F };
 enum { NULLS = 0x40, KEPT = 0x80 };
 enum { LONGEST_BUFFER = 1 << 20, BESIDE = 16, MARK = 0xA5 };
@@ -77,6 +83,7 @@ _Noreturn static void leave(int status)
 
 void *memcpy(void *, const void *, size_t);
 void *memset(void *, int, size_t);
+int memcmp(const void *, const void *, size_t);
 
 /* ---- input and output, buffered */
 
@@ -159,7 +166,14 @@ typedef struct {
     size_t begin, length;
 } buffer;
 
+/* A log, and its bytes as they were before a call. */
+typedef struct {
+    buffer now;
+    uint8_t before[LONGEST_BUFFER];
+} log_bytes;
+
 static buffer bytes, message, lent, made_table, kept_table, made_slots, kept_slots;
+static log_bytes made_log, kept_log;
 static nx584_reader kept_reader;
 static unsigned flags, turn;
 
@@ -258,6 +272,35 @@ static void give_sending(const nx584_sending *a, const buffer *slots)
     give(a->message, sizeof a->message);
     give_beside(slots);
     give_buffer(slots);
+}
+
+static void take_log(log_bytes *to)
+{
+    take_buffer(&to->now);
+    memcpy(to->before, to->now.room + to->now.begin, to->now.length);
+}
+
+static log_bytes *log_lent(void)
+{
+    if (flags & KEPT)
+        return &kept_log;
+    take_log(&made_log);
+    return &made_log;
+}
+
+static void give_changed(log_bytes *log)
+{
+    const uint8_t *now = log->now.room + log->now.begin;
+    size_t from = 0, end = memcmp(log->before, now, log->now.length) ? log->now.length : 0;
+    while (from < end && now[from] == log->before[from])
+        from++;
+    while (end > from && now[end - 1] == log->before[end - 1])
+        end--;
+    give_beside(&log->now);
+    give_number(from, 8);
+    give_number(end - from, 4);
+    give(now + from, end - from);
+    memcpy(log->before + from, now + from, end - from);
 }
 
 static void give_reading(const nx584_reading *a)
@@ -434,6 +477,39 @@ static void call_told(void)
     give_sending(&a, slots);
 }
 
+static void call_change(void)
+{
+    size_t place = (size_t)take_number(8);
+    uint8_t byte = (uint8_t)take_number(1);
+    if (place >= kept_log.now.length)
+        leave(2);
+    kept_log.now.room[kept_log.now.begin + place] = byte;
+    kept_log.before[place] = byte;
+}
+
+static void call_keep(void)
+{
+    log_bytes *log = log_lent();
+    size_t used = (size_t)take_number(8);
+    take_buffer(&message);
+    nx584_written w =
+        nx584_keep(pointer(&log->now), log->now.length, used, pointer(&message), message.length);
+    give_number(w.number, 1);
+    give_number(w.length, 8);
+    give_changed(log);
+}
+
+static void call_newest(void)
+{
+    log_bytes *log = log_lent();
+    size_t used = (size_t)take_number(8);
+    nx584_found f = nx584_newest(pointer(&log->now), log->now.length, used, (uint8_t)take_number(1));
+    give_number(f.number, 1);
+    give_number(f.at, 8);
+    give_number(f.length, 8);
+    give_changed(log);
+}
+
 int main(void)
 {
     while (in_at < in_end || refill()) {
@@ -447,17 +523,21 @@ int main(void)
         case APPLY: call_apply(); break;
         case VIEW: call_view(); break;
         case HEAR: call_hear(); break;
-        case KEEP: take_buffer(&kept_table); break;
+        case LEND_TABLE: take_buffer(&kept_table); break;
         case SHOW: give_buffer(&kept_table); break;
         case VERSION: give_number(nx584_version(), 4); break;
         case ZONE: call_zone(); break;
         case PARTITION: call_partition(); break;
         case SYSTEM: call_system(); break;
-        case LEND: take_slots(&kept_slots); break;
+        case LEND_SLOTS: take_slots(&kept_slots); break;
         case TAKE: call_take(); break;
         case TICK: call_tick(); break;
         case TOLD: call_told(); break;
         case FRESH_LENIENT: call_fresh_lenient(); break;
+        case LEND_LOG: take_log(&kept_log); break;
+        case CHANGE: call_change(); break;
+        case KEEP: call_keep(); break;
+        case NEWEST: call_newest(); break;
         default: leave(2);
         }
     }

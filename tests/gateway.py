@@ -1,11 +1,11 @@
 #!/usr/bin/env python3
-"""The host example against a made gateway on a pseudo-terminal: commands until they are acknowledged.
+"""The host example against a made gateway on a pseudo-terminal: commands until they are acknowledged, and the log.
 
 usage: tests/gateway.py SEED -- HOST [WORD...]
 
 The gateway answers at once, late, after some sendings, with 1Eh, or not at all, talks of other things meanwhile, and cuts its
 bytes anywhere. Every command ends in the way that it chose. One of newer firmware sends long messages until they are rejected,
-one on a noisy cable sends a frame again.
+one on a noisy cable sends a frame again. What was last heard about a zone is asked, and is what the gateway last said of it.
 Ends 'N passed, M failed'."""
 import os
 import re
@@ -175,6 +175,104 @@ def ways(said):
 def way(line_number, message, plan):
     word = "given up" if plan in GIVEN_UP else ENDS[PLANS[plan][-1][1]]
     return f"command {line_number} ({message[0] & 0x3F:02X}) {word}"
+
+
+# ---- what a host that keeps a log says, from document 01 and document 02, No. 6
+
+LOG_MOST = 65536
+FLAGS = ("faulted", "bypass", "trouble", "alarm memory")
+NOT_KEPT = [bytes.fromhex(text) for text in ("03 09" + 16 * "41", "09 09 01 08", "0A 09 FF 00 09 00 0B 10 0C 00", "0B 09 01", "1D",
+                                             "12 09 12 34 56 00 01", "81 09" + 9 * "00")]
+
+
+def is_about(message, zone):
+    """Zones count from 0 here, as on the line."""
+    number = message[0] & 0x3F
+    return (number == 4 and message[1] == zone) or (number == 5 and message[1] <= zone <= message[1] + 15)
+
+
+def short_flags(message, zone):
+    if message[0] & 0x3F == 5:
+        place = zone - message[1]
+        return message[2 + place // 2] >> 4 * (place % 2) & 15
+    first, second = message[6:8]
+    return bool(first & 0x01) | bool(first & 0x18) << 1 | bool(first & 0x66) << 2 | (second & 1) << 3
+
+
+def answer(kept, zone, when=""):
+    """What the host says of a zone, which it counts from 1."""
+    newest = next((message for message in reversed(kept) if is_about(message, zone)), None)
+    if newest is None:
+        return f"zone {zone + 1} was not heard{when}"
+    names = [name for k, name in enumerate(FLAGS) if short_flags(newest, zone) >> k & 1]
+    return f"zone {zone + 1} was last heard{when} in {newest.hex(' ').upper()}: {' '.join(names) or 'in order'}"
+
+
+def records(kept):
+    return b"".join(message + bytes([len(message)]) for message in kept)
+
+
+def bytes_in(path):
+    """None where there is no file."""
+    if not os.path.exists(path):
+        return None
+    with open(path, "rb") as file:
+        return file.read()
+
+
+def told(said):
+    """Answers and refusals of whole lines, in their order."""
+    return re.findall(r"^host: ((?:command|zone) .*)\n", said, re.MULTILINE)
+
+
+def spoiled(chance, part):
+    """A frame that is broken off, or has a wrong bit: no good message comes of it."""
+    at = chance.randrange(len(part))
+    return chance.choice((part[:at], part[:at] + bytes([part[at] ^ 1 << chance.randrange(8)]) + part[at + 1:]))
+
+
+class Station:
+    """A host that is asked on a descriptor, and the messages that it should have kept."""
+
+    def __init__(self, trials, home, framing):
+        self.framing, self.log_in, self.kept = framing, os.path.join(home, "log"), []
+        self.line = Line(os.path.join(home, "line"))
+        given, self.far = os.pipe()
+        words = ["--commands", f"/dev/fd/{given}", "--log", self.log_in, "--tick", "60000"]
+        self.host = trials.started(home, self.line, FRAMINGS[framing] + words, (given,))
+        os.close(given)
+
+    def hear(self, pieces):
+        """Bytes, and then a request: when it was rejected, all before it was heard."""
+        rejected, request = frame(self.framing, b"\x1f"), frame(self.framing, b"\x21")
+        self.line.heard.clear()
+        for piece in [*pieces, request]:
+            self.line.send(piece)
+        return until(lambda: self.line.hear() or rejected in self.line.heard)
+
+    def keep(self, *messages):
+        self.kept += messages
+        return self.hear(frame(self.framing, message) for message in messages)
+
+    def ask(self, *lines_asked):
+        """What it says to these lines."""
+        before = len(told(self.host.said()))
+        os.write(self.far, "".join(f"{line}\n" for line in lines_asked).encode())
+        until(lambda: len(told(self.host.said())) >= before + len(lines_asked))
+        return told(self.host.said())[before:]
+
+    def says(self, *zones):
+        """Whether it says of zones, counted from 0, what it should."""
+        return self.ask(*(f"zone {zone + 1}" for zone in zones)) == [answer(self.kept, zone) for zone in zones]
+
+    def has_written(self):
+        """Whether the log's file is its records."""
+        return bytes_in(self.log_in) == records(self.kept)
+
+    def close(self):
+        os.close(self.far)
+        self.host.leave()
+        self.line.close()
 
 
 class Commands(Trials):
@@ -367,6 +465,111 @@ class Commands(Trials):
         host.leave()
         line.close()
 
+    # ---- the log
+
+    def asked(self, home):
+        """Zone 10, which is 9 on the line, and its neighbours."""
+        status, snapshot = bytes.fromhex("84 09 01 10 00 00 01 00"), bytes.fromhex("05 09 10 00 00 00 00 00 00 82")
+        station = Station(self, home, "binary")
+        self.note("a zone before anything was heard: not heard", self.hearing, station.ask("zone 10") == ["zone 10 was not heard"])
+        self.note("after a 04h of it: those bytes, faulted; its neighbours are not heard", station.keep(status),
+                  station.ask("zone 10") == ["zone 10 was last heard in 84 09 01 10 00 00 01 00: faulted"], station.says(8, 9, 10))
+        kept = station.keep(snapshot)
+        self.note("after a 05h that covers it: the newer of the two", kept,
+                  station.ask("zone 10") == ["zone 10 was last heard in 05 09 10 00 00 00 00 00 00 82: in order"])
+        self.note("the same 05h at both edges of its sixteen zones, and not beyond them", station.says(8, 9, 10, 23, 24),
+                  station.ask("zone 25") == ["zone 25 was last heard in 05 09 10 00 00 00 00 00 00 82: alarm memory"],
+                  station.ask("zone 26") == ["zone 26 was not heard"])
+        others = [bytes.fromhex(text) for text in ("86 07 01 02 03 04 05 06 07", "07 09 09 09 09 09 09 09 09", "88 09" + 10 * "00")]
+        self.note("06h, 07h and 08h are about no zone, whatever their second byte", station.keep(*others), station.says(7, 9, 10))
+        damaged = summed(bytes.fromhex("0428") + bytes(6))[:-1] + b"\xaa"
+        heard = station.hear([frame("binary", message) for message in NOT_KEPT] + [framed("binary", damaged)])
+        self.note("what is damaged, and good messages of other numbers, change nothing", heard, station.says(9, 10, 40))
+        newer = [bytes.fromhex(text) for text in ("04 09 01 10 00 00 FE 01", "04 00 FF FF FF FF 18 00", "85 F0 00 00 00 00 00 00 00 40")]
+        kept = station.keep(*newer)
+        self.note("zones 1 and 256 too, and zone 10 by a newer 04h", kept, station.says(0, 1, 9, 10, 239, 240, 255))
+        first = bytes.fromhex("84 09 01 10 00 00 01 00 08 05 09 10 00 00 00 00 00 00 82 0A")
+        self.note("the log's file has the records, byte for byte", station.host.end() == 0, station.has_written(),
+                  records(station.kept).startswith(first))
+        station.close()
+
+    def wrong_zones(self, home):
+        wrong = ("zone 0", "zone 257", "zone", "zone ", "zone ten", "zone10", "zone 1 2", "zone 1,", "zone -1", "zone +1", "zone 0x1",
+                 "zone 1A", "zones 1", "zone 4294967297", "zone 18446744073709551617")
+        right = {"zone 1": 0, " zone \t 256 \r": 255, "zone 00010": 9, "zone 2": 1}
+        asked = [*wrong, "ZONE 1", " " * 1024 + "zone 1", *right]
+        self.chance.shuffle(asked)
+        station = Station(self, home, "binary")
+        kept, said = station.keep(bytes.fromhex("0400000000000100"), bytes.fromhex("84FF000000000801")), []
+        for k, line in enumerate(asked, 1):
+            why = "it names no zone from 1 to 256" if line in wrong else "it is not written as bytes in hexadecimal"
+            said.append(answer(station.kept, right[line]) if line in right else f"command {k} refused: {why}")
+        self.note(f"{len(wrong)} questions that name no zone, each refused with its line's number; {len(right)} others are answered",
+                  self.hearing, kept, station.ask(*asked) == said, station.host.end() == 0)
+        station.close()
+
+    def made_log(self, home, framing):
+        """Messages of all kinds, some damaged or broken off, and questions in between."""
+        station, answers = Station(self, home, framing), []
+        for _ in range(12):
+            data = b""
+            for _ in range(self.chance.randrange(1, 24)):
+                message = self.chance.choice(NOT_KEPT) if self.chance.randrange(6) == 0 else lines.message(self.chance)
+                is_intact = self.chance.randrange(4) > 0
+                data += frame(framing, message) if is_intact else spoiled(self.chance, frame(framing, message))
+                if is_intact and message not in NOT_KEPT:
+                    station.kept.append(message)
+            answers.append(station.hear(self.pieces(data)) and station.says(*self.chance.choices(range(256), k=3)))
+        self.note(f"{framing}: {len(station.kept)} messages are kept of those that were said, cut anywhere; asked in between",
+                  self.hearing, *answers, len(station.kept) > 30)
+        self.note(f"{framing}: of all 256 zones the newest word, or that there is none", station.says(*range(256)),
+                  0 < sum(any(is_about(m, zone) for m in station.kept) for zone in range(256)) < 256)
+        self.note(f"{framing}: the log's file is their {len(records(station.kept))} bytes", station.host.end() == 0, station.has_written())
+        station.close()
+
+    def asked_while_eight_wait(self, home):
+        """A question needs no slot; behind a line that needs one it keeps its turn."""
+        station = Station(self, home, "binary")
+        os.write(station.far, b"3F 09\n" * 8)
+        sent = station.line.hears(frame("binary", b"\xbf\x09"))  # the others are read by then
+        said = station.ask("zone 10")
+        os.write(station.far, b"3F 0A\nzone 11\n")
+        time.sleep(0.3)
+        behind = told(station.host.said())
+        station.line.send(frame("binary", b"\x1d"))
+        ended = station.host.said_often("zone 11 was not heard", 1)
+        self.note("eight commands wait: a question is answered; behind a ninth it waits with it", self.hearing, sent,
+                  said == ["zone 10 was not heard"], behind == said, ended,
+                  told(station.host.said()) == said + ["command 1 (3F) acknowledged", "zone 11 was not heard"],
+                  station.host.end() == 0)
+        station.close()
+
+    def full_log(self, home):
+        """On standard input. The first message that has no room is the last word, though a shorter one would have some."""
+        system, before, after = b"\x08" + bytes(11), bytes.fromhex("0409000000000100"), bytes.fromhex("0409000000000800")
+        kept = [before, before] + [system] * ((LOG_MOST - 18) // 13)
+        said = kept + [system, after, system, b"\x21"]
+        log_in, replies_in = os.path.join(home, "full"), os.path.join(home, "replies")
+        (given, far), (stdin, line) = os.pipe(), os.pipe()
+        with open(replies_in, "wb") as replies:
+            host = Host(home, self.command, ["--commands", f"/dev/fd/{given}", "--log", log_in], stdin, replies, (given,))
+        os.close(given)
+        os.close(stdin)
+        with open(line, "wb") as file:
+            file.write(b"".join(frame("binary", message) for message in said))
+            file.flush()
+            heard = until(lambda: os.path.getsize(replies_in) > 0)
+            os.write(far, b"zone 10\nzone 11\n")
+            answered = until(lambda: len(told(host.said())) >= 2)
+        status = host.process.wait(PATIENCE)
+        os.close(far)
+        room, when = LOG_MOST - len(records(kept)), " before the log was full"
+        self.note(f"a log with room for {room} bytes takes no 13 more, and then nothing: told once", heard, status == 0, 9 <= room < 13,
+                  host.said().count("host: the log is full; nothing more is kept\n") == 1)
+        self.note(f"its file is the {len(kept)} records before that", bytes_in(log_in) == records(kept))
+        self.note("and what it says of a zone is said to be of before that", answered,
+                  told(host.said()) == [answer(kept, zone, when) for zone in (9, 10)])
+
     def no_file(self, home):
         host = Host(home, self.command, ["--commands", os.path.join(home, "none")])
         status = host.process.wait(PATIENCE)
@@ -382,6 +585,12 @@ class Commands(Trials):
         self.on_a_descriptor(home)
         self.with_the_line_away(home)
         self.half_seconds(home)
+        self.asked(home)
+        self.wrong_zones(home)
+        for framing in FRAMINGS:
+            self.made_log(home, framing)
+        self.asked_while_eight_wait(home)
+        self.full_log(home)
         self.no_file(home)
 
 

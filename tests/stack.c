@@ -14,6 +14,8 @@ static size_t count, message_count;
 static uint8_t framing;
 static nx584_reader reader;
 static nx584_slot slots[NX584_SLOTS];
+static uint8_t records[NX584_LOG_MOST];
+static size_t records_used;
 static uint8_t stack[PAINTED];
 static void (*called)(void);
 static volatile uint64_t sink;
@@ -45,6 +47,8 @@ static void call_hear(void) { sink = nx584_hear(reader, table, sizeof table, byt
 static void call_take(void) { sink = nx584_take(slots, NX584_SLOTS, message, message_count).length; }
 static void call_tick(void) { sink = nx584_tick(slots, NX584_SLOTS).length; }
 static void call_told(void) { sink = nx584_told(slots, NX584_SLOTS, message, message_count).length; }
+static void call_keep(void) { sink = nx584_keep(records, sizeof records, records_used, message, message_count).length; }
+static void call_newest(void) { sink = nx584_newest(records, sizeof records, records_used, bytes[0]).length; }
 
 static const struct {
     const char *name;
@@ -53,10 +57,10 @@ static const struct {
              {"nx584_step", call_step}, {"nx584_read", call_read}, {"nx584_write", call_write}, {"nx584_reply", call_reply},
              {"nx584_apply", call_apply}, {"nx584_view", call_view}, {"nx584_zone", call_zone}, {"nx584_partition", call_partition},
              {"nx584_system", call_system}, {"nx584_hear", call_hear}, {"nx584_take", call_take}, {"nx584_tick", call_tick},
-             {"nx584_told", call_told}};
+             {"nx584_told", call_told}, {"nx584_keep", call_keep}, {"nx584_newest", call_newest}};
 
 /* ---- inputs: good messages' frames and long ones, and any bytes, an escape that was not needed at times among them; read by a fresh reader of either rule
- * or by one in the midst of them; slots with any number of commands that wait */
+ * or by one in the midst of them; slots with any number of commands that wait; a log of any length up to a full one */
 
 static void make_slots(void)
 {
@@ -65,6 +69,27 @@ static void make_slots(void)
         memset(slots, 0, sizeof slots);
     for (int k = chance() % 3; k > 0; k--)
         nx584_take(slots, NX584_SLOTS, bypass, sizeof bypass);
+}
+
+/* Records of each kept number, over and over. */
+static const uint8_t each[] = {4, 9, 0, 0, 0, 0, 0, 0, 8, 5, 16, 0, 0, 0, 0, 0, 0, 0, 0, 10, 6, 7, 0, 0, 0, 0, 0, 0, 0, 9,
+                               7, 0, 0, 0, 0, 0, 0, 0, 0, 9, 8, 0, 0, 0, 0, 0, 0, 0, 0, 0, 0, 0, 12};
+
+static void lay_records(size_t from, size_t end)
+{
+    for (; from < end && from < sizeof records; from++)
+        records[from] = each[from % sizeof each];
+}
+
+/* What the call before kept is laid over; most logs are about full, and a few end within a record. */
+static void make_log(void)
+{
+    static const uint8_t ends[] = {0, 9, 20, 30, 40};
+    size_t most = sizeof records / sizeof each - 1;
+    lay_records(records_used, records_used + sizeof each);
+    records_used = (chance() % 4 ? most : chance() * most / 256) * sizeof each + ends[chance() % sizeof ends];
+    if (chance() % 8 == 0)
+        records_used += chance() % 128;
 }
 
 static void make_bytes(void)
@@ -129,6 +154,7 @@ static void make_input(void)
     framing = chance() & 1;
     reader = chance() % 2 ? nx584_fresh(framing) : nx584_fresh_lenient(framing);
     make_slots();
+    make_log();
     make_bytes();
     if (chance() % 4)
         make_frame((uint8_t)message_count);
@@ -179,6 +205,7 @@ int main(void)
 {
     size_t most = 0, nothing = 0;
     use_own_stack();
+    lay_records(0, sizeof records);
     for (size_t k = 0; k < sizeof calls / sizeof *calls; k++) {
         size_t used = 0;
         for (int turn = 0; turn < TURNS; turn++) {

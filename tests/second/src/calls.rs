@@ -5,6 +5,8 @@ use std::io::{self, Read};
 
 use crate::commands::{from_memory, take, tick, to_memory, told, Sending, Slot, LONGEST_COMMAND};
 use crate::commands::{SLOTS, SLOT_BYTES};
+use crate::log::{keep, newest, Changed, Found};
+use crate::log_made;
 use crate::messages::LONGEST;
 use crate::odd::Wrong;
 use crate::parts::{Escapes, Lenient, Strict};
@@ -19,8 +21,17 @@ pub struct Lent {
     pub wrong: Wrong,
 }
 
-/// A call. Where the reader, the table or the slots are None, the driver's kept ones are meant; Lend keeps
-/// eight slots.
+/// A log as it is lent: its bytes, None for the driver's kept ones; how many of them are used; and what is
+/// wrong with those, where that is known.
+#[derive(Clone, Debug)]
+pub struct LentLog {
+    pub bytes: Option<Vec<u8>>,
+    pub used: u64,
+    pub wrong: Option<log_made::Wrong>,
+}
+
+/// A call. Where the reader, the table or the slots are None, the driver's kept ones are meant; LendSlots keeps
+/// eight of them. Change puts a byte into the kept log.
 #[derive(Clone, Debug)]
 pub enum Call {
     Fresh { framing: u8, escapes: Escapes },
@@ -31,20 +42,24 @@ pub enum Call {
     Apply { table: Option<Vec<u8>>, message: Vec<u8> },
     View { table: Option<Vec<u8>> },
     Hear { with: Option<(Reader, Vec<u8>)>, bytes: Vec<u8> },
-    Keep { table: Vec<u8> },
+    LendTable { table: Vec<u8> },
     Show { length: usize },
     Version,
     Zone { table: Option<Vec<u8>>, zone: u8 },
     Partition { table: Option<Vec<u8>>, partition: u8 },
     System { table: Option<Vec<u8>> },
-    Lend { slots: Vec<u8> },
+    LendSlots { slots: Vec<u8> },
     Take { slots: Option<Lent>, message: Vec<u8> },
     Tick { slots: Option<Lent> },
     Told { slots: Option<Lent>, message: Vec<u8> },
+    LendLog { log: Vec<u8> },
+    Change { place: usize, byte: u8 },
+    Keep { log: LentLog, message: Vec<u8> },
+    Newest { log: LentLog, zone: u8 },
 }
 
 /// The version of nx584.h that is meant here.
-const VERSION: u32 = 4;
+const VERSION: u32 = 5;
 /// The bytes of nx584_zone_record, nx584_partition_record and nx584_system_record.
 const ZONE_RECORD: usize = 9;
 const PARTITION_RECORD: usize = 10;
@@ -77,6 +92,16 @@ pub enum Answer {
         sending: Sending,
         slots: Vec<u8>,
     },
+    /// What is said, and what changed of the log.
+    Kept {
+        number: u8,
+        length: u64,
+        changed: Changed,
+    },
+    Found {
+        found: Found,
+        changed: Changed,
+    },
     /// A byte beside a lent buffer was touched.
     Beside,
 }
@@ -91,11 +116,13 @@ pub struct Second {
     reader: Reader,
     table: Vec<u8>,
     slots: Vec<u8>,
+    log: Vec<u8>,
 }
 
 impl Second {
     pub fn new() -> Second {
-        Second { reader: Reader::fresh(0, Strict), table: Vec::new(), slots: Vec::new() }
+        let reader = Reader::fresh(0, Strict);
+        Second { reader, table: Vec::new(), slots: Vec::new(), log: Vec::new() }
     }
 
     fn sending(&mut self, own: &Option<Lent>, call: impl FnOnce(&mut Vec<Slot>) -> Sending) -> Answer {
@@ -106,6 +133,16 @@ impl Second {
             self.slots = slots.clone();
         }
         Answer::Sending { sending, slots }
+    }
+
+    fn keep(&mut self, lent: &LentLog, message: &[u8]) -> Answer {
+        let before = lent.bytes.as_ref().unwrap_or(&self.log);
+        let kept = keep(before, lent.used, message);
+        let changed = Changed::between(before, &kept.log);
+        if lent.bytes.is_none() {
+            self.log = kept.log;
+        }
+        Answer::Kept { number: kept.number, length: kept.length, changed }
     }
 
     fn own<'a>(&'a self, table: &'a Option<Vec<u8>>) -> &'a [u8] {
@@ -155,7 +192,7 @@ impl Library for Second {
                 self.reader = reading.reader.clone();
                 Answer::Hearing { reading, reply, table: Vec::new() }
             }
-            Call::Keep { table } => {
+            Call::LendTable { table } => {
                 self.table = table.clone();
                 Answer::Nothing
             }
@@ -166,13 +203,26 @@ impl Library for Second {
                 Answer::Record(table::partition_record(self.own(table), *partition))
             }
             Call::System { table } => Answer::Record(table::system_record(self.own(table))),
-            Call::Lend { slots } => {
+            Call::LendSlots { slots } => {
                 self.slots = slots.clone();
                 Answer::Nothing
             }
             Call::Take { slots, message } => self.sending(slots, |slots| take(slots, message)),
             Call::Tick { slots } => self.sending(slots, tick),
             Call::Told { slots, message } => self.sending(slots, |slots| told(slots, message)),
+            Call::LendLog { log } => {
+                self.log = log.clone();
+                Answer::Nothing
+            }
+            Call::Change { place, byte } => {
+                self.log[*place] = *byte;
+                Answer::Nothing
+            }
+            Call::Keep { log, message } => self.keep(log, message),
+            Call::Newest { log, zone } => {
+                let found = newest(log.bytes.as_ref().unwrap_or(&self.log), log.used, *zone);
+                Answer::Found { found, changed: Changed::default() }
+            }
         }
     }
 }
@@ -216,6 +266,13 @@ impl Answer {
             (Answer::Sending { sending: e, slots: s }, Answer::Sending { sending: a, slots: t }) => {
                 e == a && s == t
             }
+            (
+                Answer::Kept { number: e, length: n, changed: c },
+                Answer::Kept { number: a, length: m, changed: d },
+            ) => e == a && n == m && c == d,
+            (Answer::Found { found: e, changed: c }, Answer::Found { found: a, changed: d }) => {
+                e == a && c == d
+            }
             _ => false,
         }
     }
@@ -238,6 +295,11 @@ fn put_reader(line: &mut Vec<u8>, reader: &Reader) {
     line.push(reader.escapes);
 }
 
+fn put_log(line: &mut Vec<u8>, log: &LentLog) {
+    log.bytes.iter().for_each(|bytes| put_buffer(line, bytes));
+    line.extend(log.used.to_le_bytes());
+}
+
 impl Call {
     pub fn is_kept(&self) -> bool {
         matches!(
@@ -253,6 +315,8 @@ impl Call {
                 | Call::Take { slots: None, .. }
                 | Call::Tick { slots: None }
                 | Call::Told { slots: None, .. }
+                | Call::Keep { log: LentLog { bytes: None, .. }, .. }
+                | Call::Newest { log: LentLog { bytes: None, .. }, .. }
         )
     }
 
@@ -267,16 +331,20 @@ impl Call {
             Call::Apply { .. } => 6,
             Call::View { .. } => 7,
             Call::Hear { .. } => 8,
-            Call::Keep { .. } => 9,
+            Call::LendTable { .. } => 9,
             Call::Show { .. } => 10,
             Call::Version => 11,
             Call::Zone { .. } => 12,
             Call::Partition { .. } => 13,
             Call::System { .. } => 14,
-            Call::Lend { .. } => 15,
+            Call::LendSlots { .. } => 15,
             Call::Take { .. } => 16,
             Call::Tick { .. } => 17,
             Call::Told { .. } => 18,
+            Call::LendLog { .. } => 20,
+            Call::Change { .. } => 21,
+            Call::Keep { .. } => 22,
+            Call::Newest { .. } => 23,
         }
     }
 
@@ -317,8 +385,21 @@ impl Call {
                 }
                 put_buffer(line, bytes);
             }
-            Call::Keep { table } => put_buffer(line, table),
-            Call::Lend { slots } => put_buffer(line, slots),
+            Call::LendTable { table } => put_buffer(line, table),
+            Call::LendSlots { slots } => put_buffer(line, slots),
+            Call::LendLog { log } => put_buffer(line, log),
+            Call::Change { place, byte } => {
+                line.extend((*place as u64).to_le_bytes());
+                line.push(*byte);
+            }
+            Call::Keep { log, message } => {
+                put_log(line, log);
+                put_buffer(line, message);
+            }
+            Call::Newest { log, zone } => {
+                put_log(line, log);
+                line.push(*zone);
+            }
             Call::Take { slots, message } | Call::Told { slots, message } => {
                 slots.iter().for_each(|lent| put_buffer(line, &lent.bytes));
                 put_buffer(line, message);
@@ -357,7 +438,9 @@ impl Call {
                     None => Answer::Beside,
                 }
             }
-            Call::Keep { .. } | Call::Lend { .. } => Answer::Nothing,
+            Call::LendTable { .. } | Call::LendSlots { .. } | Call::LendLog { .. } | Call::Change { .. } => {
+                Answer::Nothing
+            }
             Call::Take { slots, .. } | Call::Tick { slots } | Call::Told { slots, .. } => {
                 let sending = taken.sending()?;
                 match taken.lent(slots.as_ref().map_or(SLOTS * SLOT_BYTES, |lent| lent.bytes.len()))? {
@@ -370,6 +453,20 @@ impl Call {
             Call::Zone { .. } => Answer::Record(taken.bytes(ZONE_RECORD)?),
             Call::Partition { .. } => Answer::Record(taken.bytes(PARTITION_RECORD)?),
             Call::System { .. } => Answer::Record(taken.bytes(SYSTEM_RECORD)?),
+            Call::Keep { .. } => {
+                let (number, length) = (taken.byte()?, taken.number(8)?);
+                match taken.changed()? {
+                    Some(changed) => Answer::Kept { number, length, changed },
+                    None => Answer::Beside,
+                }
+            }
+            Call::Newest { .. } => {
+                let (number, at, length) = (taken.byte()?, taken.number(8)?, taken.number(8)?);
+                match taken.changed()? {
+                    Some(changed) => Answer::Found { found: Found { number, at, length }, changed },
+                    None => Answer::Beside,
+                }
+            }
         })
     }
 }
@@ -402,6 +499,14 @@ impl<R: Read> Taken<'_, R> {
         let untouched = self.byte()? == 1;
         let bytes = self.bytes(length)?;
         Ok(if untouched { Some(bytes) } else { None })
+    }
+
+    /// What changed of a lent log; none where a byte beside it was touched.
+    fn changed(&mut self) -> io::Result<Option<Changed>> {
+        let untouched = self.byte()? == 1;
+        let (at, length) = (self.number(8)?, self.number(4)?);
+        let bytes = self.bytes(length as usize)?;
+        Ok(if untouched { Some(Changed { at, bytes }) } else { None })
     }
 
     fn reader(&mut self) -> io::Result<Reader> {
@@ -481,6 +586,19 @@ impl fmt::Display for Lent {
     }
 }
 
+impl fmt::Display for LentLog {
+    fn fmt(&self, f: &mut fmt::Formatter) -> fmt::Result {
+        let bytes = own_or_kept(&self.bytes.as_deref().map(Hex));
+        write!(f, "used {} log {bytes} (wrong: {:?})", self.used, self.wrong)
+    }
+}
+
+impl fmt::Display for Changed {
+    fn fmt(&self, f: &mut fmt::Formatter) -> fmt::Result {
+        write!(f, "changed from {}: {}", self.at, Hex(&self.bytes))
+    }
+}
+
 fn own_or_kept(own: &Option<impl fmt::Display>) -> String {
     own.as_ref().map_or_else(|| "the kept one".to_string(), |o| o.to_string())
 }
@@ -514,7 +632,7 @@ impl fmt::Display for Call {
             Call::Hear { with: Some((reader, table)), bytes } => {
                 write!(f, "hear bytes {} reader: {reader} table {}", Hex(bytes), Hex(table))
             }
-            Call::Keep { table } => write!(f, "keep table {}", Hex(table)),
+            Call::LendTable { table } => write!(f, "lend table {}", Hex(table)),
             Call::Show { .. } => write!(f, "show the kept table"),
             Call::Version => write!(f, "version"),
             Call::Zone { table, zone } => write!(f, "zone {zone} of table {}", table_or_kept(table)),
@@ -522,7 +640,7 @@ impl fmt::Display for Call {
                 write!(f, "partition {partition} of table {}", table_or_kept(table))
             }
             Call::System { table } => write!(f, "system of table {}", table_or_kept(table)),
-            Call::Lend { slots } => write!(f, "lend slots {}", Hex(slots)),
+            Call::LendSlots { slots } => write!(f, "lend slots {}", Hex(slots)),
             Call::Take { slots, message } => {
                 write!(f, "take message {} slots {}", Hex(message), own_or_kept(slots))
             }
@@ -530,6 +648,10 @@ impl fmt::Display for Call {
             Call::Told { slots, message } => {
                 write!(f, "told message {} slots {}", Hex(message), own_or_kept(slots))
             }
+            Call::LendLog { log } => write!(f, "lend log {}", Hex(log)),
+            Call::Change { place, byte } => write!(f, "change place {place} byte {byte:02X}"),
+            Call::Keep { log, message } => write!(f, "keep message {} {log}", Hex(message)),
+            Call::Newest { log, zone } => write!(f, "newest zone {zone} {log}"),
         }
     }
 }
@@ -560,6 +682,12 @@ impl fmt::Display for Answer {
             Answer::Sending { sending: Sending { number, ended, length, message }, slots } => {
                 let (message, slots) = (Hex(message), Hex(slots));
                 write!(f, "number {number} ended {ended:02X} length {length} message {message} slots {slots}")
+            }
+            Answer::Kept { number, length, changed } => {
+                write!(f, "number {number} length {length} {changed}")
+            }
+            Answer::Found { found: Found { number, at, length }, changed } => {
+                write!(f, "number {number} at {at} length {length} {changed}")
             }
             Answer::Beside => write!(f, "a byte beside the lent buffer was touched"),
         }

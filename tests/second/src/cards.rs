@@ -1,8 +1,8 @@
-//! Document 01's bench cards, the expected values typed from its page, and some for document 02, Nos. 2 and 5.
+//! Document 01's bench cards, the expected values typed from its page, and some for document 02, Nos. 2, 5 and 6.
 //! They are asked of the second program itself, and of the library where there is one. All that are read hold
 //! under both rules of escapes, but for those of No. 5.
 
-use crate::calls::{Answer, Call, Library};
+use crate::calls::{Answer, Call, LentLog, Library};
 use crate::parts::{Escapes, Lenient, Strict, RULES};
 use crate::reader::{Reader, Reading, NONE};
 use crate::report::report;
@@ -49,6 +49,14 @@ const CARD_1_ESCAPED: [&[u8]; 4] = [
 /// "7D 7D gives 5Dh": a log event request.
 const LOG_EVENT_5D: &[u8] = &[0x7E, 0x02, 0x2A, 0x7D, 0x7D, 0x89, 0xB7];
 
+/// Card 4's message and card 5's, and a log of both: card 5's first, each with its length behind it.
+const MESSAGE_4: &[u8] = &[0x84, 0x09, 0x7E, 0x10, 0x58, 0x00, 0x01, 0x00];
+const MESSAGE_5: &[u8] = &[0x05, 0x00, 0x01, 0x00, 0x00, 0x00, 0x00, 0x00, 0x00, 0x00];
+const LOG_OF_BOTH: &[u8] = &[
+    0x05, 0x00, 0x01, 0x00, 0x00, 0x00, 0x00, 0x00, 0x00, 0x00, 0x0A, 0x84, 0x09, 0x7E, 0x10, 0x58, 0x00,
+    0x01, 0x00, 0x08,
+];
+
 /// What a host hears: the verdict, its type byte, the message and the reply; then how many bytes it used.
 type Heard = (u8, u8, Vec<u8>, u8, u64);
 
@@ -57,7 +65,7 @@ type Heard = (u8, u8, Vec<u8>, u8, u64);
 fn heard_by(library: &mut impl Library, escapes: Escapes, framing: u8, bytes: &[u8]) -> Vec<Heard> {
     let mut heard = Vec::new();
     library.call(&Call::Fresh { framing, escapes });
-    library.call(&Call::Keep { table: vec![0; TABLE_BYTES] });
+    library.call(&Call::LendTable { table: vec![0; TABLE_BYTES] });
     let mut rest = bytes;
     while heard.len() <= bytes.len() {
         match library.call(&Call::Hear { with: None, bytes: rest.to_vec() }) {
@@ -263,8 +271,104 @@ fn card_4_noisy(library: &mut impl Library) -> bool {
         && heard_by(library, Strict, 0, &then_card_1) == [fifteen, good(&[0x1D], 0, 13)]
 }
 
+/// The number, the bytes added and the log afterwards of a keep.
+fn kept(library: &mut impl Library, log: &[u8], used: u64, message: &[u8]) -> (u8, u64, Vec<u8>) {
+    let lent = LentLog { bytes: Some(log.to_vec()), used, wrong: None };
+    match library.call(&Call::Keep { log: lent, message: message.to_vec() }) {
+        Answer::Kept { number, length, changed } => {
+            let mut after = log.to_vec();
+            let places = after.iter_mut().skip(changed.at as usize);
+            places.zip(changed.bytes).for_each(|(place, byte)| *place = byte);
+            (number, length, after)
+        }
+        _ => (NONE, 0, Vec::new()),
+    }
+}
+
+/// The number, the place and the length of the newest record about a zone.
+fn newest(library: &mut impl Library, log: &[u8], used: u64, zone: u8) -> (u8, u64, u64) {
+    let lent = LentLog { bytes: Some(log.to_vec()), used, wrong: None };
+    match library.call(&Call::Newest { log: lent, zone }) {
+        Answer::Found { found, changed } if changed.bytes.is_empty() => {
+            (found.number, found.at, found.length)
+        }
+        _ => (NONE, 0, 0),
+    }
+}
+
+/// Card 5's message is kept in 20 bytes of 00h, then card 4's, and then none has room.
+fn log_of_both(library: &mut impl Library) -> bool {
+    let (first, rest) = (&LOG_OF_BOTH[..11], vec![0; 9]);
+    let after_5 = kept(library, &[0; 20], 0, MESSAGE_5);
+    let after_4 = kept(library, &after_5.2, 11, MESSAGE_4);
+    after_5 == (0, 11, [first, &rest].concat())
+        && after_4 == (0, 9, LOG_OF_BOTH.to_vec())
+        && kept(library, LOG_OF_BOTH, 20, MESSAGE_4) == (9, 0, LOG_OF_BOTH.to_vec())
+        && kept(library, &[0; 8], 0, MESSAGE_4) == (9, 0, vec![0; 8])
+}
+
+/// Zone 10 was last heard in card 4, zones 1 to 9 and 11 to 16 in card 5, the others not.
+fn newest_of_both(library: &mut impl Library) -> bool {
+    (0..=255).all(|zone| {
+        let wanted = match zone {
+            9 => (0, 11, 9),
+            0..=15 => (0, 0, 11),
+            _ => (0, 0, 0),
+        };
+        newest(library, LOG_OF_BOTH, 20, zone) == wanted
+            && newest(library, LOG_OF_BOTH, 11, zone) == (0, 0, if zone < 16 { 11 } else { 0 })
+            && newest(library, LOG_OF_BOTH, 0, zone) == (0, 0, 0)
+    })
+}
+
+/// 16 for one byte more than there is; 17 for a log that is cut, or that has one byte wrong: a trailer of 9 or of
+/// 0, an offset of 241, another number, bit 6. In all but the first two the record about zone 10 is as it was.
+fn unsound_logs(library: &mut impl Library) -> bool {
+    let refused = |number| (number, 0, 0);
+    let changed = [(19, 0x09), (10, 0x00), (1, 241), (0, 0x04), (0, 0x0A), (0, 0x45)];
+    newest(library, LOG_OF_BOTH, 21, 9) == refused(16)
+        && newest(library, LOG_OF_BOTH, 19, 9) == refused(17)
+        && changed.iter().all(|&(place, byte)| {
+            let mut log = LOG_OF_BOTH.to_vec();
+            log[place] = byte;
+            newest(library, &log, 20, 9) == refused(17) && kept(library, &log, 20, &[]) == (17, 0, log)
+        })
+}
+
+/// The message's own refusals, then 18, then 9.
+fn log_refusals(library: &mut impl Library) -> bool {
+    let offset_241 = [0x05, 241, 0, 0, 0, 0, 0, 0, 0, 0];
+    let house_16 = [0x09, 16, 0, 0x08];
+    let refusals: [(&[u8], u8); 7] = [
+        (&[], 4),
+        (&[0x44, 9, 0, 0, 0, 0, 0, 0], 6),
+        (&[0x04, 9, 0, 0, 0, 0, 0], 7),
+        (&offset_241, 8),
+        (&house_16, 8),
+        (&[0x09, 15, 0, 0x08], 18),
+        (&[0x1D], 18),
+    ];
+    refusals.iter().all(|&(message, refusal)| {
+        kept(library, LOG_OF_BOTH, 20, message) == (refusal, 0, LOG_OF_BOTH.to_vec())
+            && kept(library, &[0xEE; 40], 0, message) == (refusal, 0, vec![0xEE; 40])
+    })
+}
+
+fn log_cards(library: &mut impl Library) -> [(&'static str, bool); 4] {
+    [
+        ("log: card 5's message and card 4's kept, then 9", log_of_both(library)),
+        ("log: the newest about each zone", newest_of_both(library)),
+        ("log: 16 and 17", unsound_logs(library)),
+        ("log: 4, 6, 7, 8 and 18 before 9", log_refusals(library)),
+    ]
+}
+
 /// Each card's name, and whether the library answers as the card says.
 pub fn cards(library: &mut impl Library) -> Vec<(&'static str, bool)> {
+    [protocol_cards(library), log_cards(library).to_vec()].concat()
+}
+
+fn protocol_cards(library: &mut impl Library) -> Vec<(&'static str, bool)> {
     let card_1 = good(&[0x1D], 0, 5);
     let request_5d = good(&[0x2A, 0x5D], 0x1F, 7);
     vec![

@@ -2,6 +2,7 @@
 
 use crate::calls::{Answer, Call, Lent};
 use crate::commands::{from_memory, waiting, Sending, GIVEN_UP};
+use crate::log_counts::LogCounts;
 use crate::messages::{LENGTHS, LONGEST, LONGEST_KNOWN};
 use crate::odd::{Wrong, WRONGS};
 use crate::parts::{length_in, unstuffed, Strict};
@@ -91,6 +92,7 @@ pub struct Counts {
     bad_escapes: [[[u64; 256]; CUTS.len()]; PLACES.len()],
     /// The driver's kept reader, which a call may go on with.
     kept: Reader,
+    log: LogCounts,
 }
 
 /// A verdict that fell, and the part in which it did, as far as that had come before the byte that decides.
@@ -101,6 +103,27 @@ struct Fallen {
     byte: u8,
     /// Whether the byte was the first of its call.
     first: bool,
+}
+
+/// Prints how often each number of a row was met, and says which of the wanted was not.
+pub fn print_row(
+    name: &str,
+    wanted: &[u8],
+    row: &[u64; 256],
+    show: impl Fn(u8) -> String,
+    missing: &mut Vec<String>,
+) {
+    let met: Vec<String> = (0..=255u8)
+        .filter(|&n| row[usize::from(n)] > 0)
+        .map(|n| format!("{} x {}", show(n), row[usize::from(n)]))
+        .collect();
+    println!("  {name}: {}", met.join(", "));
+    missing.extend(
+        wanted
+            .iter()
+            .filter(|&&n| row[usize::from(n)] == 0)
+            .map(|&n| format!("{name} {} was never answered", show(n))),
+    );
 }
 
 fn is_lenient(reader: &Reader) -> usize {
@@ -121,6 +144,7 @@ impl Counts {
             lengths: [[[0; 256]; 16]; KINDS.len()],
             bad_escapes: [[[0; 256]; CUTS.len()]; PLACES.len()],
             kept: Reader::fresh(0, Strict),
+            log: LogCounts::new(),
         }
     }
 
@@ -132,6 +156,7 @@ impl Counts {
         let mine = self.lengths.iter_mut().flatten().chain(self.bad_escapes.iter_mut().flatten());
         let theirs = other.lengths.iter().flatten().chain(other.bad_escapes.iter().flatten());
         mine.flatten().zip(theirs.flatten()).for_each(|(mine, theirs)| *mine += theirs);
+        self.log.add(&other.log);
     }
 
     fn fallen(&self, call: &Call, answer: &Answer) -> Option<Fallen> {
@@ -226,6 +251,7 @@ impl Counts {
         self.count_length(call, answer);
         self.keep(call, answer);
         self.count_numbers(call, answer);
+        self.log.count(call, answer);
     }
 
     fn count_numbers(&mut self, call: &Call, answer: &Answer) {
@@ -309,17 +335,7 @@ impl Counts {
                 _ if in_hex => format!("{number:02X}"),
                 _ => number.to_string(),
             };
-            let met: Vec<String> = (0..=255u8)
-                .filter(|&n| row[usize::from(n)] > 0)
-                .map(|n| format!("{} x {}", show(n), row[usize::from(n)]))
-                .collect();
-            println!("  {name}: {}", met.join(", "));
-            missing.extend(
-                wanted
-                    .iter()
-                    .filter(|&&n| row[usize::from(n)] == 0)
-                    .map(|&n| format!("{name} {} was never answered", show(n))),
-            );
+            print_row(name, wanted, row, show, &mut missing);
         }
         let by_wrong = WRONGS.iter().zip(&self.wrong);
         let met: Vec<String> =
@@ -340,6 +356,7 @@ impl Counts {
         }
         self.print_lengths(&mut missing);
         self.print_bad_escapes(&mut missing);
+        self.log.print(&mut missing);
         missing
     }
 }

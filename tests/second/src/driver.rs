@@ -12,6 +12,8 @@ use crate::counts::Counts;
 /// So many differences of one trial are printed; all are counted.
 const PRINTED: u64 = 5;
 const CALLS_AT_ONCE: usize = 500;
+/// Calls that lend long logs go out before as many are made.
+const BYTES_AT_ONCE: usize = 1 << 20;
 
 fn spawn(command: &[String]) -> (Child, ChildStdin, BufReader<ChildStdout>) {
     let mut child = Command::new(&command[0])
@@ -115,7 +117,7 @@ impl Calls {
         self.made += 1;
         call.put(&mut self.line, self.made % 2 == 0);
         self.bundle.push((call, expected.clone()));
-        if self.bundle.len() >= CALLS_AT_ONCE {
+        if self.bundle.len() >= CALLS_AT_ONCE || self.line.len() >= BYTES_AT_ONCE {
             self.send();
         }
         expected

@@ -36,7 +36,7 @@ fn ask_escape(ask: &mut impl FnMut(Call) -> Answer, recovered: &[u8], place: usi
 }
 
 fn ask_fresh(ask: &mut impl FnMut(Call) -> Answer, escapes: Escapes) {
-    ask(Call::Keep { table: vec![0; TABLE_BYTES] });
+    ask(Call::LendTable { table: vec![0; TABLE_BYTES] });
     ask(Call::Fresh { framing: number(Binary), escapes });
 }
 

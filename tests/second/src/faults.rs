@@ -210,7 +210,7 @@ impl Library for Faulty {
                 self.table = table;
                 Answer::Hearing { reading, reply, table: Vec::new() }
             }
-            Call::Keep { table } => {
+            Call::LendTable { table } => {
                 self.table = table.clone();
                 Answer::Nothing
             }

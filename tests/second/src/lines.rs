@@ -108,7 +108,7 @@ fn run(chance: &mut Chance, calls: &mut Calls, length: usize) {
 /// One line goes on from run to run, and becomes empty again at times.
 pub fn runs_from_empty(chance: &mut Chance, calls: &mut Calls, budget: u64) {
     while calls.made < budget {
-        calls.call(Call::Lend { slots: vec![0; SLOTS * SLOT_BYTES] });
+        calls.call(Call::LendSlots { slots: vec![0; SLOTS * SLOT_BYTES] });
         for _ in 0..20 {
             let length = 50 + chance.below(400);
             run(chance, calls, length);
@@ -120,7 +120,7 @@ pub fn runs_from_any(chance: &mut Chance, calls: &mut Calls, budget: u64) {
     while calls.made < budget {
         let used = chance.below(SLOTS + 1);
         let slots = odd::sound(chance, used);
-        calls.call(Call::Lend { slots: to_memory(&slots) });
+        calls.call(Call::LendSlots { slots: to_memory(&slots) });
         let length = 1 + chance.below(200);
         run(chance, calls, length);
     }

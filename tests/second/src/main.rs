@@ -9,6 +9,11 @@ mod driver;
 mod escapes;
 mod faults;
 mod lines;
+mod log;
+mod log_counts;
+mod log_faults;
+mod log_made;
+mod log_trials;
 mod long;
 mod made;
 mod messages;
@@ -110,6 +115,7 @@ fn run_self(words: &Words) -> ! {
     tally.note("card 13: the report", cards::card_13_is_reported());
     selftest::run(&mut Chance::new(words.seed()), &mut tally);
     faults::run(&mut tally);
+    log_faults::run(words.seed(), &mut tally);
     tally.end()
 }
 

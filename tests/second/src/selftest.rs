@@ -1,11 +1,14 @@
 //! What must hold of the second program's own answers, beside the cards.
 
 use std::collections::VecDeque;
+use std::ops::Range;
 
 use crate::calls::{Answer, Call, Library, Second};
 use crate::commands::{take, tick, told, waiting, Sending, Slot, GIVEN_UP, NOT_ENDED, SLOTS};
+use crate::log::{is_kept, keep, newest, record, records, Found};
+use crate::log_trials::any_log;
 use crate::made::{self, Chance};
-use crate::messages::{sums, sums_in_eight_bits, verdict_of, LENGTHS, LONGEST, LONGEST_KNOWN};
+use crate::messages::{length_of, sums, sums_in_eight_bits, verdict_of, LENGTHS, LONGEST, LONGEST_KNOWN};
 use crate::odd;
 use crate::parts::{frame, verdicts, Ascii, Binary, Escapes, Framing, Judged, Lenient, Strict, RULES};
 use crate::reader::{read, Reader, AFTER_7D, NONE};
@@ -298,6 +301,110 @@ fn lines_keep_their_word(chance: &mut Chance) -> bool {
     })
 }
 
+/// The records of a log as it is read from its beginning, the oldest first: each type byte says how far away the
+/// trailer is. None where it cannot be read to its end.
+fn records_forwards(used: &[u8]) -> Option<Vec<Range<usize>>> {
+    let (mut records, mut at) = (Vec::new(), 0);
+    while at < used.len() {
+        let length = length_of(used[at])?;
+        let message = used.get(at..at + length)?;
+        if !is_kept(message[0]) || verdict_of(message) != 0 || used.get(at + length) != Some(&(length as u8))
+        {
+            return None;
+        }
+        records.push(at..at + length + 1);
+        at += length + 1;
+    }
+    Some(records)
+}
+
+/// No bytes are two logs: those that are read back to the beginning have the same records from there.
+fn logs_are_read_both_ways(chance: &mut Chance) -> bool {
+    let mut sound = 0;
+    (0..20_000).all(|_| {
+        let lent = any_log(chance);
+        let bytes = lent.bytes.unwrap_or_default();
+        let used = &bytes[..bytes.len().min(lent.used as usize)];
+        let backwards = records(used).map(|records| records.into_iter().rev().collect::<Vec<_>>());
+        sound += usize::from(backwards.is_some());
+        backwards == records_forwards(used)
+    }) && (2_000..18_000).contains(&sound)
+}
+
+/// The zones that a message says something of.
+fn zones_of(message: &[u8]) -> Vec<u8> {
+    match message[0] & 0x3F {
+        0x04 => vec![message[1]],
+        0x05 => (0..16).map(|k| message[1] + k).collect(),
+        _ => Vec::new(),
+    }
+}
+
+/// A log that began empty and was changed by keeping alone: what was kept, joined, and for each zone where the
+/// last that says something of it stands, and its length; 0 and 0 where none does.
+struct Diary {
+    log: Vec<u8>,
+    joined: Vec<u8>,
+    last: Vec<(u64, u64)>,
+}
+
+impl Diary {
+    /// Keeps a message, and says the number.
+    fn keep(&mut self, message: &[u8]) -> u8 {
+        let (used, record) = (self.joined.len() as u64, record(message));
+        let kept = keep(&self.log, used, message);
+        if kept.number == 0 {
+            let zones = zones_of(message).into_iter().map(usize::from);
+            zones.for_each(|zone| self.last[zone] = (used, record.len() as u64));
+            self.joined.extend(record);
+        }
+        self.log = kept.log;
+        kept.number
+    }
+
+    /// The used bytes are what was kept, those beyond are as they were, and the newest are the last.
+    fn holds(&self, before: &[u8]) -> bool {
+        let used = self.joined.len();
+        self.log == [&self.joined, &before[used..]].concat()
+            && (0..=255).zip(&self.last).all(|(zone, &(at, length))| {
+                newest(&self.log, used as u64, zone) == Found { number: 0, at, length }
+            })
+    }
+}
+
+fn logs_keep_their_word(chance: &mut Chance) -> bool {
+    let mut full = 0;
+    (0..100).all(|_| {
+        let length = chance.below(400);
+        let before = made::bytes(chance, length);
+        let mut diary = Diary { log: before.clone(), joined: Vec::new(), last: vec![(0, 0); 256] };
+        (0..50).all(|_| {
+            let number = diary.keep(&made::table_message(chance));
+            full += usize::from(number == 9);
+            matches!(number, 0 | 9) && diary.holds(&before)
+        })
+    }) && full > 1_000
+}
+
+/// A unit that puts every good message into its table and into its log can make the table again from the log.
+fn logs_tell_the_table(chance: &mut Chance) -> bool {
+    (0..200).all(|_| {
+        let (mut table, mut again) = (vec![0; TABLE_BYTES], vec![0; TABLE_BYTES]);
+        let (mut log, mut used) = (made::bytes(chance, 4_000), 0);
+        let heard = (0..300).all(|k| {
+            let message =
+                if k % 3 == 0 { made::some_good_message(chance) } else { made::table_message(chance) };
+            let kept = keep(&log, used, &message);
+            used += kept.length;
+            log = kept.log;
+            apply(&mut table, &message) == 0 && matches!(kept.number, 0 | 18)
+        });
+        let kept = records(&log[..used as usize]).unwrap_or_default();
+        let taken = kept.iter().rev().all(|r| apply(&mut again, &log[r.start..r.end - 1]) == 0);
+        heard && taken && kept.len() >= 200 && table == again
+    })
+}
+
 pub fn run(chance: &mut Chance, tally: &mut Tally) {
     tally.note("document 003's worked example", worked_example());
     tally.note("sums are those of document 003's pseudo-code", sums_are_the_pseudo_code(chance));
@@ -312,4 +419,7 @@ pub fn run(chance: &mut Chance, tally: &mut Tally) {
     tally.note("records are what was said", records_are_what_was_said());
     tally.note("a silent gateway: sent four times, given up", silence_gives_up());
     tally.note("commands: in time, oldest first, none lost", lines_keep_their_word(chance));
+    tally.note("log: the same records from its beginning", logs_are_read_both_ways(chance));
+    tally.note("log: what was kept, joined; the newest about each zone", logs_keep_their_word(chance));
+    tally.note("log: the table made again from it", logs_tell_the_table(chance));
 }

@@ -5,6 +5,7 @@ use crate::counts::GOOD_FRAMES;
 use crate::driver::Calls;
 use crate::escapes;
 use crate::lines;
+use crate::log_trials;
 use crate::long;
 use crate::made::{self, Chance};
 use crate::messages::{LENGTHS, LONGEST, LONGEST_KNOWN};
@@ -20,7 +21,7 @@ pub struct Trial {
     pub make: fn(&mut Chance, &mut Calls, u64),
 }
 
-pub const TRIALS: [Trial; 34] = [
+pub const TRIALS: [Trial; 47] = [
     Trial { name: "reply: all 65,536 pairs", share: 0, make: all_replies },
     Trial { name: "every type byte at every length to 20", share: 0, make: all_types_and_lengths },
     Trial { name: "every value of every byte of every message", share: 0, make: all_values },
@@ -49,16 +50,29 @@ pub const TRIALS: [Trial; 34] = [
     Trial { name: "escapes: every byte to readers after a 7Dh", share: 0, make: escapes::after_7d },
     Trial { name: "escapes: every number of a rule in a reader", share: 0, make: escapes::every_number },
     Trial { name: "escapes: frames read and written again", share: 0, make: escapes::round_trips },
-    Trial { name: "streams cut at random, read and step", share: 28, make: cut_streams },
-    Trial { name: "streams cut at random, hear", share: 14, make: heard_streams },
+    Trial { name: "log: every type byte at every length to 20, kept", share: 0, make: log_trials::all_types },
+    Trial { name: "log: every edge of the used length", share: 0, make: log_trials::all_edges },
+    Trial { name: "log: room to the byte", share: 0, make: log_trials::all_rooms },
+    Trial { name: "log: logs with one thing wrong", share: 0, make: log_trials::all_wrongs },
+    Trial { name: "log: every value at every place", share: 0, make: log_trials::damaged },
+    Trial { name: "log: cut at every place", share: 0, make: log_trials::cuts },
+    Trial { name: "log: every zone of a record alone", share: 0, make: log_trials::all_zones },
+    Trial { name: "log: every zone of many records", share: 0, make: log_trials::many_records },
+    Trial { name: "log: kept from empty to full", share: 0, make: log_trials::full },
+    Trial { name: "log: a full one damaged at a byte", share: 0, make: log_trials::full_damaged },
+    Trial { name: "log: a full one cut at every place", share: 0, make: log_trials::full_cut },
+    Trial { name: "streams cut at random, read and step", share: 26, make: cut_streams },
+    Trial { name: "streams cut at random, hear", share: 13, make: heard_streams },
     Trial { name: "the same streams under both rules of escapes", share: 9, make: same_streams },
-    Trial { name: "readers of any kind", share: 14, make: any_readers },
-    Trial { name: "write around the edges of the buffer", share: 13, make: edge_writes },
+    Trial { name: "readers of any kind", share: 13, make: any_readers },
+    Trial { name: "write around the edges of the buffer", share: 12, make: edge_writes },
     Trial { name: "apply to any table", share: 5, make: any_applies },
     Trial { name: "view of any table", share: 4, make: any_views },
     Trial { name: "version, every zone and partition of any table", share: 5, make: any_records },
     Trial { name: "commands: runs from empty slots", share: 5, make: lines::runs_from_empty },
     Trial { name: "commands: runs from any sound slots", share: 3, make: lines::runs_from_any },
+    Trial { name: "log: runs from an empty log", share: 3, make: log_trials::runs_from_empty },
+    Trial { name: "log: any log", share: 2, make: log_trials::any_logs },
 ];
 
 pub const FRAMINGS: [Framing; 2] = [Binary, Ascii];
@@ -93,7 +107,7 @@ fn read_by_both(calls: &mut Calls, framing: u8, bytes: &[u8]) {
 }
 
 pub fn fresh_table(calls: &mut Calls) {
-    calls.call(Call::Keep { table: vec![0; TABLE_BYTES] });
+    calls.call(Call::LendTable { table: vec![0; TABLE_BYTES] });
 }
 
 pub fn show_table(calls: &mut Calls) {
@@ -281,7 +295,7 @@ fn heard_streams(chance: &mut Chance, calls: &mut Calls, budget: u64) {
     while calls.made < budget {
         let framing = chance.framing();
         let table = if chance.one_in(4) { made::table(chance) } else { vec![0; TABLE_BYTES] };
-        calls.call(Call::Keep { table });
+        calls.call(Call::LendTable { table });
         calls.call(Call::Fresh { framing: chance.framing_number(framing), escapes: chance.escapes() });
         for _ in 0..20 {
             let mut stream = made::piece(chance, framing);
@@ -391,7 +405,7 @@ fn any_views(chance: &mut Chance, calls: &mut Calls, budget: u64) {
 /// Every zone and partition of a table, those that there are not too, and some of a buffer that is no table.
 fn any_records(chance: &mut Chance, calls: &mut Calls, budget: u64) {
     while calls.made < budget {
-        calls.call(Call::Keep { table: made::table(chance) });
+        calls.call(Call::LendTable { table: made::table(chance) });
         (0..=255).for_each(|zone| drop(calls.call(Call::Zone { table: None, zone })));
         (0..=255).for_each(|partition| drop(calls.call(Call::Partition { table: None, partition })));
         calls.call(Call::System { table: None });
