@@ -319,10 +319,15 @@ static uint8_t flags_in(const uint8_t *message, size_t length, uint8_t zone) {
     return nx584_zone(table, sizeof table, zone).flags;
 }
 
-/* What was last heard about a zone. The library refuses no log that nx584_keep alone has changed. */
+/* What was last heard about a zone. A log that nx584_keep alone has changed is not refused: this unit's memory would be
+ * damaged, and that a zone was not heard must not be said then. */
 static void show_newest(const struct unit *u, uint8_t zone) {
     const char *until = u->is_log_full ? " before the log was full" : "";
     nx584_found f = nx584_newest(u->log, sizeof u->log, u->log_used, zone);
+    if (f.number != 0) {
+        fprintf(stderr, "host: zone %d: the log is not sound (%d)\n", zone + 1, f.number);
+        return;
+    }
     if (f.length == 0) {
         fprintf(stderr, "host: zone %d was not heard%s\n", zone + 1, until);
         return;
