@@ -5,7 +5,7 @@ use native.Mathlib.Omega.{arith}
 use mathlib.Core.Path.{_≡_, refl, sym, ap, _∙_}
 use mathlib.Core.Bool.{Bool, true, false, cond, not, _||_}
 use mathlib.Core.List.{List, [], _∷_}
-use lib.Dec.{eqb, ltb}
+use lib.Dec.{eqb, ltb, leb→le}
 use lib.ListN.{length, take}
 use borrow.Author.Tests.{eq-eqb, ne-eqb, eqb-true, eqb-false, ltb-false, le-ltb}
 use Rattle.standard.specs.Words.{byte, firstOf}
@@ -29,6 +29,18 @@ inside log end h = go (ltb (length log) end) refl (ltb logMost end) refl h
 
 pub inside-not : (log : List ℕ) (end : ℕ) → Inside log end → beyond log end ≡ false
 inside-not log end h = rw (le-ltb (length log) end (h .buffer), le-ltb logMost end (h .most)) refl
+
+-- 65,536 BYTES MAY BE USED, and not one more
+pub to-the-byte : (log : List ℕ) → 65536 ≤ length log → (beyond log 65536 ≡ false) × (beyond log 65537 ≡ true)
+to-the-byte log h =
+    let above : ltb logMost 65537 ≡ true = refl in (
+      inside-not log 65536 (record { buffer = h; most = leb→le 65536 logMost tt }),
+      ap (λ t. ltb (length log) 65537 || t) above ∙ or-true (ltb (length log) 65537),
+    )
+  where
+    or-true : (t : Bool) → (t || true) ≡ true
+    or-true true = refl
+    or-true false = refl
 
 -- ---- the log's own
 
