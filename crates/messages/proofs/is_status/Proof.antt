@@ -15,7 +15,8 @@ use Rattle.messages.proofs.is_status.Statement.{statement}
 use Rattle.messages.proofs.is_status.Tie as tie
 
 -- past the second test
-one : (c : tie.Else2) → statusNumber (byte 1 (c .before .before .before .before .before .args .message .now) % 128) ≡ true
+one : (c : tie.Else2)
+    → let m = c .before .before .before .before .before .args .message .now in statusNumber (byte 1 m % 128) ≡ true
 one c = sym (c .before .between .ensures) ∙ not-false _ (c .if2 .left)
 
 returns : tie.Need-returns
