@@ -56,7 +56,7 @@ abbrev pub ifKept : Option (List (List ℕ)) → Option (List (List ℕ))
 ifKept none = none
 ifKept (some ms) = cond (allKept ms) (some ms) none
 
--- the messages of a log, newest first, if it is one; no record is shorter than its trailer
+-- the messages of a log, newest first, if it is one; each has a trailer at least, so that there are no more than bytes
 unfoldable pub recordsOf : List ℕ → Option (List (List ℕ))
 recordsOf log = ifKept (walkedBack (length log) log)
 

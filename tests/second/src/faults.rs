@@ -2,9 +2,9 @@
 //! answers: the trials must tell each from the right ones.
 
 use crate::calls::{Answer, Call, Library, Second};
-use crate::cards::cards;
 use crate::escapes::{ask_constructors, ask_every_byte, ask_every_number, ask_replies, SHORTEST};
 use crate::parts::{Escapes, Lenient, Strict};
+use crate::planted::{differs, note, note_none};
 use crate::reader::{escapes_of, read, refused, Reader, Reading, AFTER_7D, IN_FRAME, NONE, SKIPPING};
 use crate::table::{apply, TABLE_BYTES};
 use crate::writer::reply;
@@ -223,33 +223,17 @@ impl Library for Faulty {
 
 /// Whether some answer in a trial of the rules differs from the right one.
 fn is_found(fault: Fault) -> bool {
-    let (mut right, mut faulty, mut found) = (Second::new(), Faulty::new(fault), false);
-    // one difference is enough: nothing more is asked then
-    let mut ask = |call: Call| {
-        if found {
-            return Answer::Nothing;
-        }
-        let expected = right.call(&call);
-        found = !expected.is_met_by(&faulty.call(&call));
-        expected
-    };
-    ask_replies(&mut ask);
-    ask_constructors(&mut ask);
-    ask_every_byte(&mut ask, SHORTEST);
-    ask_every_number(&mut ask);
-    found
-}
-
-fn failed_cards(fault: Fault) -> usize {
-    cards(&mut Faulty::new(fault)).iter().filter(|(_, ok)| !ok).count()
+    differs(Faulty::new(fault), |mut ask| {
+        ask_replies(&mut ask);
+        ask_constructors(&mut ask);
+        ask_every_byte(&mut ask, SHORTEST);
+        ask_every_number(&mut ask);
+    })
 }
 
 pub fn run(tally: &mut Tally) {
-    let silent = !is_found(Fault::Nothing) && failed_cards(Fault::Nothing) == 0;
-    tally.note("with no fault planted, none is found", silent);
+    note_none(tally, "", Faulty::new(Fault::Nothing), is_found(Fault::Nothing));
     for (fault, name) in FAULTS {
-        let found = is_found(fault);
-        let name = format!("a planted fault is found: {name}; cards that fail: {}", failed_cards(fault));
-        tally.note(&name, found);
+        note(tally, "", name, Faulty::new(fault), is_found(fault));
     }
 }

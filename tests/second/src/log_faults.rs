@@ -4,11 +4,11 @@
 use std::ops::Range;
 
 use crate::calls::{Answer, Call, LentLog, Library, Second};
-use crate::cards::cards;
 use crate::log::{is_about, record, Changed, Found, Kept, KEPT, LOG_MOST};
 use crate::log_trials::ASKED;
 use crate::made::Chance;
 use crate::messages::{length_of, verdict_of};
+use crate::planted::{differs, note, note_none};
 use crate::Tally;
 
 #[derive(Clone, Copy, PartialEq)]
@@ -377,37 +377,16 @@ impl Library for Faulty {
 
 /// Whether some answer in a trial of the log differs from the right one.
 fn is_found(seed: u64, fault: Fault) -> bool {
-    let (mut right, mut faulty, mut found) = (Second::new(), Faulty::new(fault), false);
-    for trial in ASKED {
-        // one difference is enough: nothing more is asked then
-        let mut ask = |call: Call| {
-            if found {
-                return Answer::Nothing;
-            }
-            let expected = right.call(&call);
-            found = !expected.is_met_by(&faulty.call(&call));
-            expected
-        };
-        trial(&mut Chance::new(seed), &mut ask);
-        if found {
-            return true;
-        }
-    }
-    false
-}
-
-fn failed_cards(fault: Fault) -> usize {
-    cards(&mut Faulty::new(fault)).iter().filter(|(_, ok)| !ok).count()
+    ASKED.iter().any(|trial| differs(Faulty::new(fault), |ask| trial(&mut Chance::new(seed), ask)))
 }
 
 pub fn run(seed: u64, tally: &mut Tally) {
-    let silent = !is_found(seed, Fault::Nothing) && failed_cards(Fault::Nothing) == 0;
-    tally.note("log: with no fault planted, none is found", silent);
-    let written = WRITTEN.map(|number| (Fault::WrittenAt(number), format!("a byte written at {number}")));
-    let named = FAULTS.map(|(fault, name)| (fault, name.to_string()));
-    for (fault, name) in named.into_iter().chain(written) {
-        let found = is_found(seed, fault);
-        let name = format!("log: a planted fault is found: {name}; cards that fail: {}", failed_cards(fault));
-        tally.note(&name, found);
+    note_none(tally, "log: ", Faulty::new(Fault::Nothing), is_found(seed, Fault::Nothing));
+    for (fault, name) in FAULTS {
+        note(tally, "log: ", name, Faulty::new(fault), is_found(seed, fault));
+    }
+    for number in WRITTEN {
+        let (fault, name) = (Fault::WrittenAt(number), format!("a byte written at {number}"));
+        note(tally, "log: ", &name, Faulty::new(fault), is_found(seed, fault));
     }
 }

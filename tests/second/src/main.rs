@@ -20,6 +20,7 @@ mod messages;
 mod nxread;
 mod odd;
 mod parts;
+mod planted;
 mod reader;
 mod report;
 mod selftest;
