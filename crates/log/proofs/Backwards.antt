@@ -1,6 +1,7 @@
 -- Laws of one step back, as the code takes it: what stands at the end of some bytes is a record, and the bytes before
 -- it tell the rest; or it is none, and they are no log. Assumes nothing.
 use Prim.Native.Nat.{ℕ, _+_, _-_, _≤_, _<_}
+use native.Mathlib.Nat.{le-refl}
 use native.Mathlib.Omega.{arith}
 use mathlib.Core.Path.{_≡_, refl, sym, ap, subst, _∙_}
 use mathlib.Core.Bool.{Bool, true, false, cond, false≢true}
@@ -8,7 +9,7 @@ use mathlib.Core.Option.{Option, none, some, Option·map, Option·none-ne-some}
 use mathlib.Core.List.{List, [], _∷_, _++_}
 use lib.Dec.{ltb}
 use lib.ListN.{length, take, drop}
-use lib.Seq.{length-take-le, take-take, take-add, drop-at}
+use lib.Seq.{length-take-le, take-length, take-take, take-add, drop-at}
 use borrow.Author.Tests.{lt-ltb, le-ltb, ltb-true}
 use Rattle.standard.specs.Messages.{isStatus}
 use Rattle.standard.proofs.Messages.{both-true}
@@ -227,3 +228,30 @@ module _ (log : List ℕ) (end : ℕ) {start : ℕ} (some-bytes : 0 < end) (insi
 
   pub turn-stops : start ≡ end → recordsOf (take end log) ≡ none
   turn-stops h = let n = size in stopped (take end log) (omega arith) (sym told ∙ h ∙ sym size)
+
+-- ---- the invariant of a loop that walks back: what is told of the bytes before the end is told of the whole
+
+pub record Left {A : Type 0} (tells : List ℕ → A) (log : List ℕ) (end : ℕ) : Type 0 where
+  pub within : end ≤ length log
+  pub same : tells (take end log) ≡ tells log
+
+pub left-whole : {A : Type 0} (tells : List ℕ → A) (log : List ℕ) → Left tells log (length log)
+left-whole tells log = record { within = le-refl (length log); same = ap tells (take-length log) }
+
+-- bytes are left
+pub some-left : (log : List ℕ) (end : ℕ) → end ≤ length log → 0 < end → 1 ≤ length (take end log)
+some-left log end inside h = let n = length-take-le end log inside in omega arith
+
+-- a turn that changes nothing of what is told
+pub left-turn : {A : Type 0} (tells : List ℕ → A) (log : List ℕ) (end : ℕ) {start : ℕ} → Left tells log end
+    → Turn log end start → tells (take (startOf (take end log)) (take end log)) ≡ tells (take end log)
+    → Left tells log start
+left-turn tells log end l t e =
+    let inside = l .within in
+    let less = t .less in
+    record { within = omega arith; same = ap tells (sym (t .rest)) ∙ e ∙ l .same }
+
+-- at the beginning
+pub left-none : {A : Type 0} (tells : List ℕ → A) (log : List ℕ) (end : ℕ) → Left tells log end → end ≡ 0
+    → tells [] ≡ tells log
+left-none tells log end l e = ap (λ (n : ℕ). tells (take n log)) (sym e) ∙ l .same

@@ -1,30 +1,23 @@
 -- `log::is_sound` meets its contract. The loop's invariant: what is left before the end is sound if the whole is.
 -- Assumes nothing.
-use Prim.Native.Nat.{ℕ, _≤_}
-use native.Mathlib.Nat.{le-refl}
 use native.Mathlib.Omega.{arith}
-use mathlib.Core.Path.{_≡_, sym, ap, _∙_}
-use mathlib.Core.List.{List}
-use lib.ListN.{length, take}
-use lib.Seq.{take-length, length-take-le}
+use mathlib.Core.Path.{_≡_, sym, _∙_}
+use lib.ListN.{take}
+use lib.Seq.{length-take-le}
 use Rattle.log.specs.Log.{sound}
-use Rattle.log.proofs.Backwards.{Turn, turn, turn-stops, sound-none, sound-back, sound-empty}
+use Rattle.log.proofs.Backwards.{Turn, turn, turn-stops, sound-none, sound-back, sound-empty, Left, left-whole}
+use Rattle.log.proofs.Backwards.{some-left, left-turn, left-none}
 use Rattle.log.proofs.is_sound.Statement.{statement}
 use Rattle.log.proofs.is_sound.Tie as tie
 
-record Left (log : List ℕ) (end : ℕ) : Type 0 where
-  within : end ≤ length log
-  same : sound (take end log) ≡ sound log
-
 abbrev Inv-loop : tie.InvT-loop
-Inv-loop log end₀ end = Left log end
+Inv-loop log end₀ end = Left sound log end
 
 abbrev μ-loop : tie.MeasureT-loop
 μ-loop log end₀ end = end
 
 loop-holds : tie.Need-loop-holds Inv-loop μ-loop
-loop-holds c = let log = c .before .args .log .now in
-    record { within = le-refl (length log); same = ap sound (take-length log) }
+loop-holds c = left-whole sound (c .before .args .log .now)
 
 slice-aggregate-record-start : tie.Need-slice-aggregate-record-start Inv-loop μ-loop
 slice-aggregate-record-start c = let l = c .before .before .loop in
@@ -33,8 +26,8 @@ slice-aggregate-record-start c = let l = c .before .before .loop in
 record-start-requires : tie.Need-record-start-requires Inv-loop μ-loop
 record-start-requires c κs =
     let l = c .before .before .loop in
-    let size = length-take-le (l .end) (c .before .before .before .before .args .log .now) (l .inv .within) in
-    omega (arith, c .before .loop-test .taken)
+    let log = c .before .before .before .before .args .log .now in
+    some-left log (l .end) (l .inv .within) (c .before .loop-test .taken)
 
 -- what the turn makes of the place where the record begins
 went : (c : tie.Else1 Inv-loop μ-loop)
@@ -60,21 +53,15 @@ loop-less c = went c .less
 loop-again : tie.Need-loop-again Inv-loop μ-loop
 loop-again c =
     let at = c .before .before .before .before in
+    let log = at .before .before .args .log .now in
     let t = went c in
-    let less = t .less in
-    let inside = at .loop .inv .within in
-    record {
-      within = omega arith;
-      same = ap sound (sym (t .rest)) ∙ sound-back (take (at .loop .end) (at .before .before .args .log .now)) (t .step)
-          ∙ at .loop .inv .same;
-    }
+    left-turn sound log (at .loop .end) (at .loop .inv) t (sound-back (take (at .loop .end) log) (t .step))
 
 returns-2 : tie.Need-returns-2 Inv-loop μ-loop
 returns-2 c =
     let at = c .before in
-    let log = at .before .before .args .log .now in
     let none : at .loop .end ≡ 0 = omega (arith, c .loop-test .left) in
-    sym sound-empty ∙ ap (λ (n : ℕ). sound (take n log)) (sym none) ∙ at .loop .inv .same
+    sym sound-empty ∙ left-none sound (at .before .before .args .log .now) (at .loop .end) (at .loop .inv) none
 
 pub is-sound-spec : {M : Type 1} → statement M
 is-sound-spec =

@@ -1,27 +1,28 @@
 -- `log::newest_in` meets its contract. The loop's invariant: what is found before the end is found in the whole.
 -- Assumes nothing.
 use Prim.Native.Nat.{ℕ, _-_, _≤_}
-use native.Mathlib.Nat.{le-refl}
 use native.Mathlib.Omega.{arith}
 use mathlib.Core.Path.{_≡_, sym, ap, ap₂, subst, _∙_}
 use mathlib.Core.List.{List}
 use lib.ListN.{length, take, drop}
-use lib.Seq.{take-length, length-take-le}
+use lib.Seq.{length-take-le}
 use borrow.Author.Needs.{needs}
 use Rattle.standard.proofs.Status.{status-length}
+use Rattle.log.specs.declared.Found.{Found}
 use Rattle.log.specs.Log.{lastMessage, sound, about}
 use Rattle.log.specs.Places.{foundIn}
-use Rattle.log.proofs.Backwards.{Turn, turn, turn-stops, turn-message}
+use Rattle.log.proofs.Backwards.{Turn, turn, turn-stops, turn-message, Left, left-whole}
+use Rattle.log.proofs.Backwards.{some-left, left-turn, left-none}
 use Rattle.log.proofs.Finding.{found-none, found-empty, found-other, found-here, found-unsound}
 use Rattle.log.proofs.newest_in.Statement.{statement}
 use Rattle.log.proofs.newest_in.Tie as tie
 
-record Left (log : List ℕ) (zone end : ℕ) : Type 0 where
-  within : end ≤ length log
-  same : foundIn (take end log) zone ≡ foundIn log zone
+-- what is told of some bytes
+abbrev tells : ℕ → List ℕ → Found
+tells zone log = foundIn log zone
 
 abbrev Inv-loop : tie.InvT-loop
-Inv-loop log zone end₀ end = Left log zone end
+Inv-loop log zone end₀ end = Left (tells zone) log end
 
 abbrev μ-loop : tie.MeasureT-loop
 μ-loop log zone end₀ end = end
@@ -40,7 +41,7 @@ endOf c = c .before .before .before .before .loop .end
 abbrev startIn : tie.Else1 Inv-loop μ-loop → ℕ
 startIn c = c .before .record-start .result
 
-invOf : (c : tie.Else1 Inv-loop μ-loop) → Left (logOf c) (zoneOf c) (endOf c)
+invOf : (c : tie.Else1 Inv-loop μ-loop) → Left (tells (zoneOf c)) (logOf c) (endOf c)
 invOf c = c .before .before .before .before .loop .inv
 
 went : (c : tie.Else1 Inv-loop μ-loop) → Turn (logOf c) (endOf c) (startIn c)
@@ -61,10 +62,7 @@ said : (c : tie.After-is-about Inv-loop μ-loop)
 said c = let at = c .before .before in c .is-about .ensures ∙ ap (about (zoneOf at)) (message at)
 
 loop-holds : tie.Need-loop-holds Inv-loop μ-loop
-loop-holds c =
-    let log = c .before .args .log .now in
-    let zone = c .before .args .zone in
-    record { within = le-refl (length log); same = ap (λ (l : List ℕ). foundIn l zone) (take-length log) }
+loop-holds c = left-whole (tells (c .before .args .zone)) (c .before .args .log .now)
 
 slice-aggregate-record-start : tie.Need-slice-aggregate-record-start Inv-loop μ-loop
 slice-aggregate-record-start c = let l = c .before .before .loop in
@@ -73,8 +71,8 @@ slice-aggregate-record-start c = let l = c .before .before .loop in
 record-start-requires : tie.Need-record-start-requires Inv-loop μ-loop
 record-start-requires c κs =
     let l = c .before .before .loop in
-    let size = length-take-le (l .end) (c .before .before .before .before .args .log .now) (l .inv .within) in
-    omega (arith, c .before .loop-test .taken)
+    let log = c .before .before .before .before .args .log .now in
+    some-left log (l .end) (l .inv .within) (c .before .loop-test .taken)
 
 no-record-requires : tie.Need-no-record-requires Inv-loop μ-loop
 no-record-requires c κs = search needs
@@ -155,14 +153,8 @@ loop-again : tie.Need-loop-again Inv-loop μ-loop
 loop-again c =
     let at = c .before .before .before in
     let t = went at in
-    let less = t .less in
-    let inside = invOf at .within in
-    record {
-      within = omega arith;
-      same = ap (λ (l : List ℕ). foundIn l (zoneOf at)) (sym (t .rest))
-          ∙ found-other (take (endOf at) (logOf at)) (zoneOf at) (t .step) (sym (said (c .before)) ∙ c .if2 .left)
-          ∙ invOf at .same;
-    }
+    left-turn (tells (zoneOf at)) (logOf at) (endOf at) (invOf at) t
+    (found-other (take (endOf at) (logOf at)) (zoneOf at) (t .step) (sym (said (c .before)) ∙ c .if2 .left))
 
 no-record-requires-3 : tie.Need-no-record-requires-3 Inv-loop μ-loop
 no-record-requires-3 c κs = search needs
@@ -170,13 +162,11 @@ no-record-requires-3 c κs = search needs
 returns-4 : tie.Need-returns-4 Inv-loop μ-loop
 returns-4 c =
     let at = c .before .before in
-    let log = at .before .before .args .log .now in
     let zone = at .before .before .args .zone in
     let none : at .loop .end ≡ 0 = omega (arith, c .before .loop-test .left) in
     c .no-record3 .ensures
     ∙ sym (found-empty zone)
-    ∙ ap (λ (n : ℕ). foundIn (take n log) zone) (sym none)
-    ∙ at .loop .inv .same
+    ∙ left-none (tells zone) (at .before .before .args .log .now) (at .loop .end) (at .loop .inv) none
 
 pub newest-in-spec : {M : Type 1} → statement M
 newest-in-spec =
