@@ -2,17 +2,14 @@
 use Prim.Native.Nat.{ℕ, _+_, _-_, _≤_, _<_}
 use native.Mathlib.Omega.{arith}
 use mathlib.Core.Path.{_≡_, refl, _∙_}
-use mathlib.Core.Bool.{Bool, true, false, _||_}
+use mathlib.Core.Bool.{Bool, true, false}
 use mathlib.Core.List.{List}
 use lib.Dec.{eqb, leb}
 use borrow.Author.Tests.{ne-eqb, le-leb, lt-leb, leb-true, leb-false}
 use Rattle.standard.specs.Words.{byte}
 use Rattle.standard.specs.Messages.{numberOf, within}
+use Rattle.standard.proofs.Messages.{or-false}
 use Rattle.log.specs.Log.{about}
-
-or-false : (t : Bool) → (t || false) ≡ t
-or-false true = refl
-or-false false = refl
 
 -- a 04h, of one zone
 pub about-zone : (zone : ℕ) (m : List ℕ) → numberOf (byte 1 m) ≡ 0x04 → about zone m ≡ eqb (byte 2 m) zone

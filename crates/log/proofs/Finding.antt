@@ -1,5 +1,4 @@
--- Laws of the newest record about a zone: as the code looks for it, where it stands, and WHEN THERE IS NONE. Assumes
--- nothing.
+-- Laws of the newest record about a zone: as the code looks for it, and where it stands. Assumes nothing.
 use Prim.Native.Nat.{ℕ, _+_, _-_, _≤_}
 use native.Mathlib.Omega.{arith}
 use mathlib.Core.Path.{_≡_, refl, sym, ap, ap₂, subst, _∙_}

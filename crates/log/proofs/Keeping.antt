@@ -1,5 +1,4 @@
--- Laws of keeping: what a log holds after `keep`, that A LOG CHANGED BY `keep` ALONE IS SOUND, and WHAT IS NEWEST AFTER
--- IT. Assumes nothing.
+-- Laws of keeping: what a log holds after `keep`, and that A LOG CHANGED BY `keep` ALONE IS SOUND. Assumes nothing.
 use Prim.Native.Nat.{ℕ, _+_, _≤_}
 use native.Mathlib.Nat.{add-zero}
 use native.Mathlib.Omega.{arith}
@@ -12,15 +11,15 @@ use lib.ListN.{length, take, drop, length-append, length-drop}
 use lib.Seq.{take-at, length-take-le}
 use borrow.Author.Tests.{ne-eqb, eqb-true, eqb-false}
 use Rattle.standard.specs.Words.{laid}
-use Rattle.standard.specs.Messages.{among, checkOf, isStatus}
+use Rattle.standard.specs.Messages.{checkOf, isStatus}
 use Rattle.log.specs.Log.{recordOf, joined, allKept, recordsOf}
 use Rattle.log.specs.Log.{logRefusal, keepRefusal, addedOf, afterKeep}
 use Rattle.log.specs.Log.{beyond}
 use Rattle.log.specs.Runs.{Station, logIn, empty, keeping, keepingAll}
 use Rattle.log.proofs.Walking.{records-joined, joined-records}
 use Rattle.log.proofs.Backwards.{sound-records, records-sound, sound-empty}
-use Rattle.log.proofs.Refusing.{Inside, inside-not, Asked, asked-none, taken, own-numbers, keep-own, keep-18}
-use Rattle.log.proofs.Refusing.{keep-else}
+use Rattle.log.proofs.Refusing.{Inside, inside-not, Asked, asked-none, taken, ofTheKept}
+use Rattle.log.proofs.Refusing.{own-numbers, keep-own, keep-18, keep-else}
 
 -- ---- one call
 
@@ -115,15 +114,14 @@ never-refused buffer ms =
     asked-none (s .buffer) (s .used) (all-asked (empty buffer) ms (empty-asked buffer))
 
 -- IT NEVER ANSWERS 17, nor 16: of a log that is not refused `keep` answers 0, the message's own, 18 or 9
-pub keep-numbers : (log : List ℕ) (used : ℕ) (m : List ℕ) → Asked log used
-    → among (keepRefusal log used m) (0 ∷ 4 ∷ 6 ∷ 7 ∷ 8 ∷ 18 ∷ 9 ∷ []) ≡ true
+pub keep-numbers : (log : List ℕ) (used : ℕ) (m : List ℕ) → Asked log used → ofTheKept (keepRefusal log used m) ≡ true
 keep-numbers log used m a = go (eqb (checkOf m) 0) refl (isStatus m) refl (beyond log (used + length (recordOf m))) refl
   where
     p : beyond log used ≡ false
     p = inside-not log used (a .fits)
 
     Is : ℕ → Type 0
-    Is n = among n (0 ∷ 4 ∷ 6 ∷ 7 ∷ 8 ∷ 18 ∷ 9 ∷ []) ≡ true
+    Is n = ofTheKept n ≡ true
 
     go : (b : Bool) → eqb (checkOf m) 0 ≡ b → (c : Bool) → isStatus m ≡ c
         → (d : Bool) → beyond log (used + length (recordOf m)) ≡ d → Is (keepRefusal log used m)

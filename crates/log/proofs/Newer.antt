@@ -3,7 +3,7 @@
 use Prim.Native.Nat.{ℕ, _+_}
 use native.Mathlib.Omega.{arith}
 use mathlib.Core.Path.{_≡_, refl, sym, ap, _∙_}
-use mathlib.Core.Bool.{Bool, true, false, cond, not, _||_}
+use mathlib.Core.Bool.{Bool, true, false, cond, not, _||_, false≢true}
 use mathlib.Core.Option.{Option, some, Option·getD}
 use mathlib.Core.List.{List, [], _∷_, _++_}
 use lib.Dec.{eqb}
@@ -33,7 +33,7 @@ is-newest zone (n ∷ newer) older m h e = go (about zone n) h (is-newest zone n
         → (anyAbout zone newer ≡ false → about zone m ≡ true → fromNewest zone (newer ++ (m ∷ older)) ≡ m ∷ older)
         → cond t (n ∷ newer ++ (m ∷ older)) (fromNewest zone (newer ++ (m ∷ older))) ≡ m ∷ older
     go false h more = more h e
-    go true h more = let z : _≡_ {A = ℕ} 0 1 = cc in absurd (omega arith)
+    go true h more = absurd (false≢true (sym h))
 
 -- there is one exactly if some message is about the zone
 listed-none : (zone : ℕ) (ms : List (List ℕ))
@@ -87,7 +87,7 @@ foundIn s zone = foundOf (s .buffer) (s .used) zone
 
 module _ (s : Station) (m : List ℕ) (h : keepRefusal (s .buffer) (s .used) m ≡ 0) where
   before : Asked (s .buffer) (s .used)
-  before = let t = taken (s .buffer) (s .used) m h in record { fits = t .fits; sounds = t .sounds }
+  before = taken (s .buffer) (s .used) m h .log-asked
 
   after : logRefusal (keeping s m .buffer) (keeping s m .used) ≡ 0
   after = asked-none (keeping s m .buffer) (keeping s m .used) (keeping-asked s m before)

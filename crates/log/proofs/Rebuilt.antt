@@ -1,9 +1,8 @@
 -- THE LOG TELLS THE TABLE: of a unit that applies and keeps every good message, the log rebuilds the table, as long as
 -- no message was refused for want of room. Assumes nothing.
 use Prim.Native.Nat.{ℕ, _+_}
-use native.Mathlib.Omega.{arith}
 use mathlib.Core.Path.{_≡_, refl, sym, ap, _∙_}
-use mathlib.Core.Bool.{Bool, true, false, cond, _||_}
+use mathlib.Core.Bool.{Bool, true, false, cond}
 use mathlib.Core.Option.{Option, some, Option·getD}
 use mathlib.Core.List.{List, [], _∷_, _++_}
 use lib.Dec.{eqb}
@@ -12,6 +11,7 @@ use borrow.Author.Tests.{eqb-true, eqb-false}
 use Rattle.standard.specs.Messages.{among, isStatus}
 use Rattle.standard.specs.Judge.{Handed, handing}
 use Rattle.standard.specs.Table.{appliedTo, tableAfter}
+use Rattle.standard.proofs.Messages.{neither-true}
 use Rattle.standard.proofs.Status.{status-is}
 use Rattle.standard.proofs.Stored.{other-keeps, after-append}
 use Rattle.log.specs.Log.{recordOf, walkedBack, allKept, recordsOf, beyond, keepRefusal}
@@ -90,13 +90,9 @@ unfolding keepingAll numbers tookAll
 told-all t s [] a h = refl
 told-all t s (m ∷ ms) a h =
     let n = keepRefusal (s .buffer) (s .used) m in
-    let b = neither (eqb 9 n) (among 9 (numbers (keeping s m) ms)) h in
+    let b = neither-true (eqb 9 n) (among 9 (numbers (keeping s m) ms)) h in
     told-all t (keeping s m) ms (keeping-asked s m a) (b .1)
     ∙ ap (λ (u : List ℕ). tookAll u ms) (told-keeping t s m a (λ z. eqb-false 9 n (b .0) (sym z)))
-  where
-    neither : (x y : Bool) → (x || y) ≡ false → (x ≡ false) × (y ≡ false)
-    neither false y h = (refl, h)
-    neither true y h = let z : _≡_ {A = ℕ} 0 1 = cc in absurd (omega arith)
 
 -- whatever a stream handed out, from whatever table on
 pub rebuilt : (t buffer : List ℕ) (hs : List Handed) → among 9 (numbers (empty buffer) (goodIn hs)) ≡ false

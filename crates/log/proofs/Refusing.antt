@@ -10,7 +10,7 @@ use lib.ListN.{length, take}
 use borrow.Author.Tests.{eq-eqb, ne-eqb, eqb-true, eqb-false, ltb-false, le-ltb}
 use Rattle.standard.specs.Words.{byte, firstOf}
 use Rattle.standard.specs.Messages.{among, numberOf, checkOf, messageTests, statusNumber, isStatus}
-use Rattle.standard.proofs.Messages.{check-then}
+use Rattle.standard.proofs.Messages.{neither-true, or-true, check-then}
 use Rattle.standard.proofs.Refusals.{first-in}
 use Rattle.log.specs.Log.{logMost, recordOf, sound, beyond, logRefusal, keepTests, keepRefusal}
 
@@ -20,12 +20,9 @@ pub record Inside (log : List ℕ) (end : ℕ) : Type 0 where
   pub most : end ≤ logMost
 
 pub inside : (log : List ℕ) (end : ℕ) → beyond log end ≡ false → Inside log end
-inside log end h = go (ltb (length log) end) refl (ltb logMost end) refl h
-  where
-    go : (a : Bool) → ltb (length log) end ≡ a → (b : Bool) → ltb logMost end ≡ b → (a || b) ≡ false → Inside log end
-    go false p false q e = record { buffer = ltb-false (length log) end p; most = ltb-false logMost end q }
-    go false p true q e = let z : _≡_ {A = ℕ} 0 1 = cc in absurd (omega arith)
-    go true p b q e = let z : _≡_ {A = ℕ} 0 1 = cc in absurd (omega arith)
+inside log end h =
+    let b = neither-true (ltb (length log) end) (ltb logMost end) h in
+    record { buffer = ltb-false (length log) end (b .0); most = ltb-false logMost end (b .1) }
 
 pub inside-not : (log : List ℕ) (end : ℕ) → Inside log end → beyond log end ≡ false
 inside-not log end h = rw (le-ltb (length log) end (h .buffer), le-ltb logMost end (h .most)) refl
@@ -37,10 +34,6 @@ to-the-byte log h =
       inside-not log 65536 (record { buffer = h; most = leb→le 65536 logMost tt }),
       ap (λ t. ltb (length log) 65537 || t) above ∙ or-true (ltb (length log) 65537),
     )
-  where
-    or-true : (t : Bool) → (t || true) ≡ true
-    or-true true = refl
-    or-true false = refl
 
 -- ---- the log's own
 
@@ -114,22 +107,25 @@ module _ (log : List ℕ) (used : ℕ) (m : List ℕ) where
             → keepRefusal log used m ≡ cond (beyond log (used + length (recordOf m))) 9 0
         keep-else h = ordered ∙ rw (p, q, eq-eqb (checkOf m) 0 r, number ∙ h) refl
 
--- the message's own
-pub own-numbers : (m : List ℕ) → among (checkOf m) (0 ∷ 4 ∷ 6 ∷ 7 ∷ 8 ∷ 18 ∷ 9 ∷ []) ≡ true
-unfolding checkOf
-own-numbers m = first-in (λ n. among n (0 ∷ 4 ∷ 6 ∷ 7 ∷ 8 ∷ 18 ∷ 9 ∷ [])) (messageTests m) refl
+-- the numbers of `keep`: of a log that is not refused, and of any
+abbrev pub ofTheKept : ℕ → Bool
+ofTheKept n = among n (0 ∷ 4 ∷ 6 ∷ 7 ∷ 8 ∷ 18 ∷ 9 ∷ [])
 
--- whatever is handed in, `keep` answers one of these
-pub all-numbers : (log : List ℕ) (used : ℕ) (m : List ℕ)
-    → among (keepRefusal log used m) (0 ∷ 16 ∷ 17 ∷ 4 ∷ 6 ∷ 7 ∷ 8 ∷ 18 ∷ 9 ∷ []) ≡ true
+abbrev pub ofAny : ℕ → Bool
+ofAny n = among n (16 ∷ 17 ∷ []) || ofTheKept n
+
+pub own-numbers : (m : List ℕ) → ofTheKept (checkOf m) ≡ true
+unfolding checkOf
+own-numbers m = first-in ofTheKept (messageTests m) refl
+
+-- whatever is handed in, `keep` answers one of them
+pub all-numbers : (log : List ℕ) (used : ℕ) (m : List ℕ) → ofAny (keepRefusal log used m) ≡ true
 unfolding keepRefusal
-all-numbers log used m =
-    first-in (λ n. among n (0 ∷ 16 ∷ 17 ∷ 4 ∷ 6 ∷ 7 ∷ 8 ∷ 18 ∷ 9 ∷ [])) (keepTests log used m) refl
+all-numbers log used m = first-in ofAny (keepTests log used m) refl
 
 -- a message that is kept
 pub record Taken (log : List ℕ) (used : ℕ) (m : List ℕ) : Type 0 where
-  pub fits : Inside log used
-  pub sounds : sound (take used log) ≡ true
+  pub log-asked : Asked log used
   pub kept : isStatus m ≡ true
   pub room : Inside log (used + length (recordOf m))
 
@@ -153,4 +149,4 @@ taken log used m h = go (beyond log used) refl (sound (take used log)) refl (eqb
         let z = sym h ∙ keep-else log used m p q (eqb-true (checkOf m) 0 r) s ∙ ap (λ u. cond u 9 0) t in
         absurd (omega arith)
     go false p true q true r true s false t =
-        record { fits = inside log used p; sounds = q; kept = s; room = inside log n t }
+        record { log-asked = record { fits = inside log used p; sounds = q }; kept = s; room = inside log n t }

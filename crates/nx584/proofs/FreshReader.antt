@@ -4,7 +4,7 @@
 use Prim.Native.Nat.{ℕ, _+_, _<_}
 use native.Mathlib.Omega.{arith}
 use mathlib.Core.Path.{_≡_, refl, sym, ap, ap₂, _∙_}
-use mathlib.Core.Bool.{Bool, true, false, _||_}
+use mathlib.Core.Bool.{false}
 use mathlib.Core.List.{List, [], _∷_, _++_, append-nil, cons≢nil}
 use lib.ListN.{length, take, drop, length-append, take-append-drop}
 use lib.Seq.{take-append-le, take-append-seam}
@@ -14,6 +14,7 @@ use Rattle.standard.specs.Messages.{among, checkOf}
 use Rattle.standard.specs.Framing.{startOf, frameOf}
 use Rattle.standard.specs.Judge.{Handed, unfinished, handing, judge}
 use Rattle.standard.specs.Stream.{upToStart, partsOf, partsHand, handedOf}
+use Rattle.standard.proofs.Messages.{neither-true}
 use Rattle.standard.proofs.Framings.{Bytes, among-append}
 use Rattle.standard.proofs.Judge.{up-to-through, parts-through, parts-start}
 use Rattle.reader.specs.declared.Mode.the-variants.{Skipping}
@@ -23,10 +24,6 @@ use Rattle.reader.specs.Calls.{fresh, Uses}
 use Rattle.reader.proofs.Stream.Parts.{run, after, run-append, run-parts}
 use Rattle.reader.proofs.Stream.Used.{used-rule, used-unique}
 use Rattle.writer.proofs.RoundTrip.{FrameReads, frame-reads, write-then-read-one}
-
-neither : (a b : Bool) → (a || b) ≡ false → a ≡ false
-neither true b e = e
-neither false b e = refl
 
 -- one part, which is unfinished, hands out nothing
 alone : (rule : Escapes) (f : Framing) (l : List ℕ) → among (startOf f) l ≡ false
@@ -65,8 +62,8 @@ module _ (rule : Escapes) (f : Framing) (m q : List ℕ) (good : checkOf m ≡ 0
       let front = startOf f ∷ w .front in
       let size : length (frameOf f m) ≡ length front + 1 = ap length (w .is) ∙ length-append front (w .last ∷ []) in
       let clear : among (startOf f) (w .front) ≡ false =
-      neither (among (startOf f) (w .front)) (among (startOf f) (w .last ∷ []))
-      (sym (among-append (startOf f) (w .front) (w .last ∷ [])) ∙ w .reads .alone) in
+      neither-true (among (startOf f) (w .front)) (among (startOf f) (w .last ∷ []))
+      (sym (among-append (startOf f) (w .front) (w .last ∷ [])) ∙ w .reads .alone) .0 in
       let begin : take k (frameOf f m ++ q) ≡ take k front =
       take-append-le k (frameOf f m) q (omega arith) ∙ ap (take k) (w .is)
       ∙ take-append-le k front (w .last ∷ []) (omega arith) in

@@ -3,18 +3,17 @@
 use Prim.Native.Nat.{ℕ, _+_, _≤_}
 use mathlib.Core.Path.{_≡_, sym, ap, subst, _∙_}
 use mathlib.Core.Bool.{true, cond}
-use mathlib.Core.List.{List, [], _∷_}
+use mathlib.Core.List.{List, []}
 use lib.Dec.{eqb}
 use lib.ListN.{length, take, drop}
 use borrow.Fn.Kinds.{Dens, endedOf, resT}
 use contract.Lifetimes.{Lfts}
 use denote.Ref.{now}
 use denote.Triple.Clauses.{AtExit}
-use Rattle.standard.specs.Messages.{among}
 use Rattle.log.specs.declared.Found.{Found}
 use Rattle.log.specs.Log.{newestOf, logRefusal, keepRefusal, addedOf}
 use Rattle.log.specs.Runs.{Station, empty, keeping, keepingAll}
-use Rattle.log.proofs.Refusing.{all-numbers}
+use Rattle.log.proofs.Refusing.{ofTheKept, ofAny, all-numbers}
 use Rattle.log.proofs.Finding.{handed}
 use Rattle.log.proofs.Keeping.{keep-numbers, all-asked, empty-asked}
 use Rattle.log.proofs.Newer.{none-at-0}
@@ -40,23 +39,23 @@ module _ (κs : Lfts 2) (a : Dens κs keep-kinds.ps) (e : AtExit (endedOf 2 keep
   c-keeping = λ j. record { buffer = p .leaves j; used = a .1 .0 + p .says j .length }
 
   -- every answer has one of these numbers
-  pub c-keep-numbers : among (x .number) (0 ∷ 16 ∷ 17 ∷ 4 ∷ 6 ∷ 7 ∷ 8 ∷ 18 ∷ 9 ∷ []) ≡ true
+  pub c-keep-numbers : ofAny (x .number) ≡ true
   unfolding addedOf
   c-keep-numbers =
-      ap (λ (w : CWritten). among (w .number) (0 ∷ 16 ∷ 17 ∷ 4 ∷ 6 ∷ 7 ∷ 8 ∷ 18 ∷ 9 ∷ [])) (p .says)
+      ap (λ (w : CWritten). ofAny (w .number)) (p .says)
       ∙ all-numbers (now (a .0)) (a .1 .0) (now (a .1 .1 .0))
 
   -- A HOST THAT BEGAN WITH AN EMPTY LOG AND CHANGED IT BY THIS CALL ALONE never gets 16 or 17
   pub c-kept-alone : (buffer : List ℕ) (ms : List (List ℕ))
       → _≡_ {A = Station} (record { buffer = now (a .0); used = a .1 .0 }) (keepingAll (empty buffer) ms)
-      → among (x .number) (0 ∷ 4 ∷ 6 ∷ 7 ∷ 8 ∷ 18 ∷ 9 ∷ []) ≡ true
+      → ofTheKept (x .number) ≡ true
   unfolding addedOf
   c-kept-alone buffer ms s =
       let asked = all-asked (empty buffer) ms (empty-asked buffer) in
       let m = now (a .1 .1 .0) in
       let t = keepingAll (empty buffer) ms in
-      ap (λ (w : CWritten). among (w .number) (0 ∷ 4 ∷ 6 ∷ 7 ∷ 8 ∷ 18 ∷ 9 ∷ [])) (p .says)
-      ∙ ap (λ (t : Station). among (keepRefusal (t .buffer) (t .used) m) (0 ∷ 4 ∷ 6 ∷ 7 ∷ 8 ∷ 18 ∷ 9 ∷ [])) s
+      ap (λ (w : CWritten). ofTheKept (w .number)) (p .says)
+      ∙ ap (λ (t : Station). ofTheKept (keepRefusal (t .buffer) (t .used) m)) s
       ∙ keep-numbers (t .buffer) (t .used) m asked
 
 -- ---- finding
