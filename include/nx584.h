@@ -3,8 +3,8 @@
  *
  * From a release, x86-64 or 64-bit Arm Linux:
  *
- *     tar xzf pyttelow-0.5-aarch64-linux-gnu.tar.gz
- *     cd pyttelow-0.5-aarch64-linux-gnu
+ *     tar xzf pyttelow-0.6-aarch64-linux-gnu.tar.gz
+ *     cd pyttelow-0.6-aarch64-linux-gnu
  *     cc -std=c11 -O2 -Iinclude examples/host.c lib/libnx584.a -o unit
  *     ./unit --help
  *
@@ -47,7 +47,7 @@ extern "C" {
  * what the numbers below mean. It grows when one of those changes, and only then. A program asks
  * nx584_version() first and stops where it is another number: it was compiled with one version of this
  * file and linked with an archive of another, and no answer would mean what it seems to. */
-#define NX584_VERSION 5
+#define NX584_VERSION 6
 
 /* ---- sizes */
 
@@ -61,6 +61,7 @@ extern "C" {
 #define NX584_SLOTS 8            /* of a line of commands; all zero is an empty line */
 #define NX584_LONGEST_COMMAND 13 /* the longest command, its type byte included */
 #define NX584_LOG_MOST 65536     /* the most bytes that a log uses */
+#define NX584_LOG_ENOUGH 5236    /* a log of so many bytes has room for one more record when room was made */
 #define NX584_STACK_MOST 4096    /* of stack in a call, with its operands and its answer; measured */
 
 /* ---- numbers */
@@ -157,8 +158,8 @@ typedef struct {
     uint8_t message[NX584_LONGEST];
 } nx584_hearing;
 
-/* number: 0 or the refusal. length: of the frame written, or of the record that was added to a log; 0
- * where it was refused. */
+/* number: 0 or the refusal. length: of the frame written, of the record that was added to a log, or of what
+ * was won in one; 0 where it was refused. */
 typedef struct {
     uint8_t number;
     size_t length;
@@ -318,10 +319,10 @@ nx584_sending nx584_told(nx584_slot *slots, size_t slots_len, const uint8_t *mes
  * is never read. A buffer may be of any length; at most NX584_LOG_MOST bytes of it are used.
  *
  * A log is sound when walking back by the trailers from its end lands on its beginning, and every record
- * there is a good message of numbers 04h to 08h. An empty log is sound, and nx584_keep leaves a sound log
- * sound, so a host that changes its log by nx584_keep alone never meets 17. Both calls look at the whole
- * log: what they take grows with `used`, some tens of microseconds for a full one. Two threads lend a log
- * in turn where one of them keeps. */
+ * there is a good message of numbers 04h to 08h. An empty log is sound, and nx584_keep and nx584_make_room
+ * leave a sound log sound, so a host that changes its log by these two alone never meets 17. All three calls
+ * look at the whole log: what they take grows with `used`, some tens of microseconds for a full one. Two
+ * threads lend a log in turn where one of them keeps or makes room. */
 
 /* Keeps a message, with its flag as it came: the record is put at log[used], and every other byte stays.
  * Refusals in this order: 16 (used is beyond the buffer or above NX584_LOG_MOST), 17 (the log is not
@@ -335,6 +336,17 @@ nx584_written nx584_keep(uint8_t *log, size_t log_len, size_t used, const uint8_
  * message is log[at] to log[at + length - 2]. length 0 with number 0: the log has none. Refusals in this
  * order: 16, 17. */
 nx584_found nx584_newest(const uint8_t *log, size_t log_len, size_t used, uint8_t zone);
+
+/* Makes a log smaller where it stands. A record goes exactly if every byte of a table that it writes, and
+ * every mark bit that it sets, is written or set by later records together: an 04h if a later 04h is of its
+ * zone, an 05h if each of its 16 zones has a later 04h or a later 05h that covers it, an 06h if a later one is
+ * of its partition, an 07h or an 08h if there is a later one. The others stand at the beginning of the buffer
+ * in their order, and every byte beyond them stays as it was. A table that the log is applied to, oldest
+ * first, becomes what it would have become before, and nx584_newest gives the same bytes for every zone.
+ * Refusals in this order: 16, 17; then no byte changes. The answer's length is what was won, 0 where it was
+ * refused, so that used -= length is right after every call; a second call wins 0. At most 5,223 bytes stay,
+ * and the longest record has 13: a buffer of NX584_LOG_ENOUGH bytes or more is never full after this call. */
+nx584_written nx584_make_room(uint8_t *log, size_t log_len, size_t used);
 
 #ifdef __cplusplus
 }

@@ -6,5 +6,15 @@ pub mod Finding
 pub mod Keeping
 pub mod Newer
 pub mod Rebuilt
+pub mod Rewritten
+pub mod Which
+pub mod Making
+pub mod Filling
+pub mod Celled
+pub mod Moving
+pub mod Covered
+pub mod Knowing
+pub mod Going
+pub mod Smaller
 pub mod Unique
 pub mod Bench

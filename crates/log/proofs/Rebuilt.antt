@@ -38,7 +38,7 @@ took-good t (h ∷ hs) =
     go false e = e
 
 -- one record more, one message more for the table
-told-more : (t m : List ℕ) (ms : List (List ℕ))
+pub told-more : (t m : List ℕ) (ms : List (List ℕ))
     → tableAfter t (oldestFirst (m ∷ ms)) ≡ appliedTo (tableAfter t (oldestFirst ms)) m
 unfolding oldestFirst tableAfter
 told-more t m ms = after-append t (oldestFirst ms) (handing 0 m ∷ [])
@@ -61,7 +61,7 @@ not-kept s m a p q = go (isStatus m) refl (beyond (s .buffer) (s .used + length 
         last false f = p (is ∙ ap (λ t. cond t 9 0) f)
 
 -- one call
-told-keeping : (t : List ℕ) (s : Station) (m : List ℕ) → Asked (s .buffer) (s .used)
+pub told-keeping : (t : List ℕ) (s : Station) (m : List ℕ) → Asked (s .buffer) (s .used)
     → (keepRefusal (s .buffer) (s .used) m ≡ 9 → ⊥)
     → tableAfter t (toldBy (logIn (keeping s m))) ≡ appliedTo (tableAfter t (toldBy (logIn s))) m
 told-keeping t s m a room = go (eqb (keepRefusal (s .buffer) (s .used) m) 0) refl

@@ -2,16 +2,17 @@
 -- Assumes nothing.
 use Prim.Native.Nat.{ℕ, _+_, _≤_}
 use native.Mathlib.Omega.{arith}
-use mathlib.Core.Path.{_≡_, refl, sym, ap, _∙_}
-use mathlib.Core.Bool.{Bool, true, false, cond, not, _||_}
+use mathlib.Core.Path.{_≡_, refl, sym, ap, subst, _∙_}
+use mathlib.Core.Bool.{Bool, true, false, cond, not, _||_, false≢true}
 use mathlib.Core.List.{List, [], _∷_}
 use lib.Dec.{eqb, ltb, leb→le}
 use lib.ListN.{length, take}
-use borrow.Author.Tests.{eq-eqb, ne-eqb, eqb-true, eqb-false, ltb-false, le-ltb}
+use borrow.Author.Tests.{eq-eqb, ne-eqb, eqb-true, eqb-false, ltb-false, le-ltb, not-true}
 use Rattle.standard.specs.Words.{byte, firstOf}
 use Rattle.standard.specs.Messages.{among, numberOf, checkOf, messageTests, statusNumber, isStatus}
 use Rattle.standard.proofs.Messages.{neither-true, or-true, check-then}
 use Rattle.standard.proofs.Refusals.{first-in}
+use Rattle.standard.proofs.Status.{status-is}
 use Rattle.log.specs.Log.{logMost, recordOf, sound, beyond, logRefusal, keepTests, keepRefusal}
 
 -- a place that is not beyond
@@ -123,6 +124,39 @@ pub all-numbers : (log : List ℕ) (used : ℕ) (m : List ℕ) → ofAny (keepRe
 unfolding keepRefusal
 all-numbers log used m = first-in ofAny (keepTests log used m) refl
 
+-- a message of a log, to keep in one that is not refused: there is room for it, or there is none
+pub keep-status : (log : List ℕ) (used : ℕ) (m : List ℕ) → Asked log used → isStatus m ≡ true
+    → keepRefusal log used m ≡ cond (beyond log (used + length (recordOf m))) 9 0
+keep-status log used m a h =
+    keep-else log used m (inside-not log used (a .fits)) (a .sounds) (status-is m h .0) h
+
+-- it is one where `keep` takes it or wants room for it
+pub record Past (log : List ℕ) (used : ℕ) (m : List ℕ) : Type 0 where
+  pub log-asked : Asked log used
+  pub kept : isStatus m ≡ true
+
+pub past : (log : List ℕ) (used : ℕ) (m : List ℕ) → among (keepRefusal log used m) (0 ∷ 9 ∷ []) ≡ true → Past log used m
+unfolding checkOf
+past log used m h = go (beyond log used) refl (sound (take used log)) refl (eqb (checkOf m) 0) refl (isStatus m) refl
+  where
+    Is : ℕ → Type 0
+    Is n = among n (0 ∷ 9 ∷ []) ≡ true
+
+    not-nine : eqb (checkOf m) 9 ≡ false
+    not-nine = not-true (eqb (checkOf m) 9) (first-in (λ n. not (eqb n 9)) (messageTests m) refl)
+
+    go : (a : Bool) → beyond log used ≡ a → (b : Bool) → sound (take used log) ≡ b → (c : Bool) → eqb (checkOf m) 0 ≡ c
+        → (d : Bool) → isStatus m ≡ d → Past log used m
+    go true p b q c r d s = absurd (false≢true (subst Is (keep-16 log used m p) h))
+    go false p false q c r d s = absurd (false≢true (subst Is (keep-17 log used m p q) h))
+    go false p true q false r d s =
+        let own = subst Is (keep-own log used m p q (eqb-false (checkOf m) 0 r)) h in
+        absurd (false≢true (rw (r, not-nine) at own))
+    go false p true q true r false s =
+        absurd (false≢true (subst Is (keep-18 log used m p q (eqb-true (checkOf m) 0 r) s) h))
+    go false p true q true r true s =
+        record { log-asked = record { fits = inside log used p; sounds = q }; kept = s }
+
 -- a message that is kept
 pub record Taken (log : List ℕ) (used : ℕ) (m : List ℕ) : Type 0 where
   pub log-asked : Asked log used
@@ -130,23 +164,11 @@ pub record Taken (log : List ℕ) (used : ℕ) (m : List ℕ) : Type 0 where
   pub room : Inside log (used + length (recordOf m))
 
 pub taken : (log : List ℕ) (used : ℕ) (m : List ℕ) → keepRefusal log used m ≡ 0 → Taken log used m
-taken log used m h = go (beyond log used) refl (sound (take used log)) refl (eqb (checkOf m) 0) refl (isStatus m) refl
-    (beyond log (used + length (recordOf m))) refl
+taken log used m h = go (past log used m (rw h refl)) (beyond log (used + length (recordOf m))) refl
   where
-    n : ℕ
-    n = used + length (recordOf m)
-
-    go : (a : Bool) → beyond log used ≡ a → (b : Bool) → sound (take used log) ≡ b → (c : Bool) → eqb (checkOf m) 0 ≡ c
-        → (d : Bool) → isStatus m ≡ d → (e : Bool) → beyond log n ≡ e → Taken log used m
-    go true p b q c r d s e t = let z = sym h ∙ keep-16 log used m p in absurd (omega arith)
-    go false p false q c r d s e t = let z = sym h ∙ keep-17 log used m p q in absurd (omega arith)
-    go false p true q false r d s e t =
-        let own = eqb-false (checkOf m) 0 r in
-        absurd (own (sym (keep-own log used m p q own) ∙ h))
-    go false p true q true r false s e t =
-        let z = sym h ∙ keep-18 log used m p q (eqb-true (checkOf m) 0 r) s in absurd (omega arith)
-    go false p true q true r true s true t =
-        let z = sym h ∙ keep-else log used m p q (eqb-true (checkOf m) 0 r) s ∙ ap (λ u. cond u 9 0) t in
+    go : Past log used m → (t : Bool) → beyond log (used + length (recordOf m)) ≡ t → Taken log used m
+    go p true e =
+        let z = sym h ∙ keep-status log used m (p .log-asked) (p .kept) ∙ ap (λ u. cond u 9 0) e in
         absurd (omega arith)
-    go false p true q true r true s false t =
-        record { log-asked = record { fits = inside log used p; sounds = q }; kept = s; room = inside log n t }
+    go p false e =
+        record { log-asked = p .log-asked; kept = p .kept; room = inside log (used + length (recordOf m)) e }

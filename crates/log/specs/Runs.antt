@@ -1,5 +1,5 @@
--- Logs that calls of `keep` made, and what a log tells a table. Assumes nothing.
-use Prim.Native.Nat.{ℕ, _+_}
+-- Logs that calls of `keep` and `make_room` made, and what a log tells a table. Assumes nothing.
+use Prim.Native.Nat.{ℕ, _+_, _-_}
 use mathlib.Core.Bool.{Bool, false, cond, _||_}
 use mathlib.Core.Option.{Option·getD}
 use mathlib.Core.List.{List, [], _∷_, _++_}
@@ -7,6 +7,7 @@ use lib.Dec.{eqb}
 use lib.ListN.{take}
 use Rattle.standard.specs.Judge.{Handed, handing}
 use Rattle.log.specs.Log.{recordsOf, about, keepRefusal, addedOf, afterKeep}
+use Rattle.log.specs.Room.{wonOf, afterRoom}
 
 -- whether one of some messages is about a zone
 unfoldable pub anyAbout : ℕ → List (List ℕ) → Bool
@@ -40,6 +41,21 @@ keepingAll s (m ∷ ms) = keepingAll (keeping s m) ms
 unfoldable pub numbers : Station → List (List ℕ) → List ℕ
 numbers s [] = []
 numbers s (m ∷ ms) = keepRefusal (s .buffer) (s .used) m ∷ numbers (keeping s m) ms
+
+-- a call of `make_room`: the length that it says is taken from the used one, refused or not
+unfoldable pub making : Station → Station
+making s = record {
+  buffer = afterRoom (s .buffer) (s .used);
+  used = s .used - wonOf (s .buffer) (s .used) .length;
+}
+
+-- a unit that makes room where `keep` says 9, and then keeps
+unfoldable pub keepingOn : Station → List ℕ → Station
+keepingOn s m = cond (eqb (keepRefusal (s .buffer) (s .used) m) 9) (keeping (making s) m) (keeping s m)
+
+unfoldable pub keepingOnAll : Station → List (List ℕ) → Station
+keepingOnAll s [] = s
+keepingOnAll s (m ∷ ms) = keepingOnAll (keepingOn s m) ms
 
 -- the good messages among what a stream handed out, in their order
 unfoldable pub goodIn : List Handed → List (List ℕ)

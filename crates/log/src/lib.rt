@@ -1,14 +1,19 @@
 // Document 02, No. 6: the station log. Good messages of numbers 04 to 08 in memory that the host
-// lends, each with its length behind it, so that the log is read from its end backwards.
+// lends, each with its length behind it, so that the log is read from its end backwards. No. 7:
+// making room in it.
 use standard::Written;
 ghost use mathlib.Core.Path.{_≡_};
+ghost use mathlib.Core.Bool.{true};
 ghost use mathlib.Core.List.{[]};
 ghost use Prim.Native.Nat.{_+_, _≤_, _<_};
-ghost use lib.ListN.{length, take};
-ghost use Rattle.standard.specs.Words.{laid};
+ghost use lib.ListN.{length, getD, take, drop, replicate};
+ghost use Rattle.standard.specs.Words.{byte, laid};
+ghost use Rattle.standard.specs.Messages.{isStatus};
 ghost use Rattle.standard.specs.Questions.{Answered};
 ghost use Rattle.log.specs.Log.{recordOf, sound, about, newestOf, beyond, logRefusal, foundOf, keepRefusal, Keeps};
 ghost use Rattle.log.specs.Places.{startOf, foundIn};
+ghost use Rattle.log.specs.Room.{MakesRoom};
+ghost use Rattle.log.specs.Cells.{cellsMost, cellsOf, anyZero, isNew, noted, recordAt, recordsAt, Apart, Walks};
 
 // "a lent buffer of at most 64 KiB"
 pub const LOG_MOST: usize = 65536;
@@ -181,5 +186,180 @@ pub fn keep(log: &mut [u8], used: usize, message: &[u8]) -> Written
     Written {
         number: 0,
         length: message.len() + 1,
+    }
+}
+
+// ---- making room
+
+// What later records write is remembered in cells: of a record that stays, one at least was not
+// written yet. A cell for each zone's own bytes, for each zone's short flags, for each partition, for
+// all partitions' short bytes, and for the system. So no more records stay than there are cells.
+const CELLS: usize = 522;
+
+// Some cells, one after another.
+struct Cells {
+    first: usize,
+    count: usize,
+}
+
+// What a walk back through a log has decided: 0 and where the places of the records that stay begin,
+// or 17.
+struct Walked {
+    number: u8,
+    first: usize,
+}
+
+// The cells of which a record needs one for itself, to stay. 04h writes a zone's short flags too, but
+// who writes a zone's own bytes later writes those as well.
+fn cells_of(message: &[u8]) -> Cells
+    requires { ⌜ 2 ≤ length (now message) ⌝ }
+    ensures { λ r. ⌜ r ≡ cellsOf (now (message .entry)) ⌝ }
+{
+    let on = message[1] as usize;
+    match message[0] % 64 {
+        0x04 => Cells {
+            first: on,
+            count: 1,
+        },
+        0x05 => Cells {
+            first: 256 + on,
+            count: 16,
+        },
+        0x06 => Cells {
+            first: 512 + on,
+            count: 1,
+        },
+        0x07 => Cells {
+            first: 520,
+            count: 1,
+        },
+        _ => Cells {
+            first: 521,
+            count: 1,
+        },
+    }
+}
+
+// Writes some cells, and says whether one of them was not written yet.
+fn fill(cells: &mut [u8]) -> bool
+    ensures { λ r. ⌜ r ≡ anyZero (now (cells .entry)) ⌝ }
+    ensures { λ _. ⌜ now (cells .exit) ≡ replicate (length (now (cells .entry))) 1 ⌝ }
+{
+    let n = cells.len();
+    let mut is_new = false;
+    let mut i: usize = 0;
+    while i < n {
+        if cells[i] == 0 {
+            is_new = true;
+        }
+        cells[i] = 1;
+        i += 1;
+    }
+    is_new
+}
+
+// Notes what a record writes, and says whether it stays.
+fn note(cells: &mut [u8], message: &[u8]) -> bool
+    requires { ⌜ length (now cells) ≡ cellsMost ⌝ }
+    requires { ⌜ isStatus (now message) ≡ true ⌝ }
+    ensures { λ r. ⌜ r ≡ isNew (now (cells .entry)) (now (message .entry)) ⌝ }
+    ensures { λ _. ⌜ now (cells .exit) ≡ noted (now (cells .entry)) (now (message .entry)) ⌝ }
+{
+    let own = cells_of(message);
+    let first = own.first;
+    let end = first + own.count;
+    let is_new = fill(&mut cells[first..end]);
+    if message[0] % 64 == 0x04 {
+        let short = 256 + message[1] as usize;
+        cells[short] = 1;
+    }
+    is_new
+}
+
+// Walks back through a log, and puts the places of the trailers of those records that stay at the
+// end of `places`, the newest last.
+fn walk(log: &[u8], cells: &mut [u8], places: &mut [u16]) -> Walked
+    requires { ⌜ length (now log) ≤ 65536 ⌝ }
+    requires { ⌜ now cells ≡ replicate cellsMost 0 ⌝ }
+    requires { ⌜ length (now places) ≡ cellsMost ⌝ }
+    ensures { λ r. ⌜ Walks (now (log .entry)) (r .number) (r .first) (now (places .exit)) ⌝ }
+{
+    let mut end = log.len();
+    let mut first = places.len();
+    while 0 < end {
+        let start = record_start(&log[..end]);
+        if start == end {
+            return Walked {
+                number: 17,
+                first,
+            };
+        }
+        let last = end - 1;
+        if note(cells, &log[start..last]) {
+            first -= 1;
+            places[first] = last as u16;
+        }
+        end = start;
+    }
+    Walked { number: 0, first }
+}
+
+// Moves the record whose trailer stands at a place down to another, and says where it ends there.
+fn move_record(log: &mut [u8], to: usize, last: usize) -> usize
+    requires { ⌜ (last < length (now log)) × (to + getD (now log) last 0 ≤ last) ⌝ }
+    ensures { λ r. ⌜ r ≡ to + (getD (now (log .entry)) last 0 + 1) ⌝ }
+    ensures { λ _. ⌜ now (log .exit) ≡ laid (now (log .entry)) to (recordAt (now (log .entry)) last) ⌝ }
+{
+    let n = log[last] as usize + 1;
+    let from = last + 1 - n;
+    let mut i: usize = 0;
+    while i < n {
+        log[to + i] = log[from + i];
+        i += 1;
+    }
+    to + n
+}
+
+// Moves the records at some places to the beginning, in their order, and says how many bytes they are.
+fn close_up(log: &mut [u8], places: &[u16]) -> usize
+    requires { ⌜ Apart (now log) 0 (now places) ⌝ }
+    ensures { λ r. ⌜ r ≡ length (recordsAt (now (log .entry)) (now (places .entry))) ⌝ }
+    ensures { λ _. ⌜ now (log .exit) ≡ laid (now (log .entry)) 0 (recordsAt (now (log .entry)) (now (places .entry))) ⌝ }
+{
+    let n = places.len();
+    let mut to: usize = 0;
+    let mut i: usize = 0;
+    while i < n {
+        to = move_record(log, to, places[i] as usize);
+        i += 1;
+    }
+    to
+}
+
+// Makes a log smaller where it stands. The length that is said is what was won, to be taken from the
+// used one. Nothing moves before the walk has come to the beginning.
+pub fn make_room(log: &mut [u8], used: usize) -> Written
+    ensures { λ r. ⌜ MakesRoom (now (log .entry)) used r (now (log .exit)) ⌝ }
+{
+    if is_beyond(log, used) {
+        return Written {
+            number: 16,
+            length: 0,
+        };
+    }
+    let mut cells = [0u8; CELLS];
+    let mut places = [0u16; CELLS];
+    let walked = walk(&log[..used], &mut cells, &mut places);
+    if walked.number != 0 {
+        return Written {
+            number: walked.number,
+            length: 0,
+        };
+    }
+    let first = walked.first;
+    let left = close_up(log, &places[first..]);
+    Written {
+        number: 0,
+        length: used - left,
     }
 }

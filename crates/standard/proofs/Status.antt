@@ -12,7 +12,8 @@ use Rattle.standard.specs.Words.{byte}
 use Rattle.standard.specs.Messages.{known, lengthIn, numberOf, lengthFor, valuesOk, checkOf}
 use Rattle.standard.specs.Messages.{statusNumber, isStatus}
 use Rattle.standard.proofs.Messages.{both-true, and-true, low-length, number-length, good, passed, known-low}
-use Rattle.standard.proofs.Messages.{passed-number, values-offset, values-partition}
+use Rattle.standard.proofs.Messages.{passed-number, passed-offset, passed-partition, values-offset}
+use Rattle.standard.proofs.Messages.{values-partition}
 
 -- one of the five numbers
 pub record Five (n : ℕ) : Type 0 where
@@ -75,6 +76,21 @@ status-by m n e w h =
 pub status-is : (m : List ℕ) → isStatus m ≡ true → (checkOf m ≡ 0) × Five (numberOf (byte 1 m))
 unfolding isStatus
 status-is m h = let b = both-true _ _ h in (eqb-true (checkOf m) 0 (b .0), five (numberOf (byte 1 m)) (b .1))
+
+-- so it is one of them, and its checked value is right
+pub status-cases : (P : Type 0) (m : List ℕ) → isStatus m ≡ true
+    → (numberOf (byte 1 m) ≡ 0x04 → P)
+    → (numberOf (byte 1 m) ≡ 0x05 → byte 2 m ≤ 240 → P)
+    → (numberOf (byte 1 m) ≡ 0x06 → byte 2 m ≤ 7 → P)
+    → (numberOf (byte 1 m) ≡ 0x07 → P)
+    → (numberOf (byte 1 m) ≡ 0x08 → P)
+    → P
+status-cases P m h a b c d e =
+    let s = status-is m h in
+    let ok = passed m (s .0) in
+    of-five (λ n. numberOf (byte 1 m) ≡ n → P) a (λ q. b q (passed-offset m ok q)) (λ q. c q (passed-partition m ok q)) d
+    e
+    (numberOf (byte 1 m)) (s .1) refl
 
 -- and what is not both is not
 pub not-status : (m : List ℕ) → (checkOf m ≡ 0 → Five (numberOf (byte 1 m)) → ⊥) → isStatus m ≡ false
