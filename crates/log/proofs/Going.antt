@@ -13,7 +13,6 @@ use lib.Seq.{take-length, drop-length, length-take-le, getD-take, getD-drop, dro
 use borrow.Author.Tests.{not-true, not-false}
 use Rattle.standard.specs.Words.{Bytes, byte, upTo}
 use Rattle.standard.specs.Messages.{isStatus}
-use Rattle.standard.proofs.Words.{total-le, length-upTo}
 use Rattle.standard.proofs.Status.{status-length}
 use Rattle.log.specs.Log.{joined, lastMessage, allKept, walkedBack, recordsOf, isList, sound}
 use Rattle.log.specs.Places.{startOf}
@@ -22,7 +21,8 @@ use Rattle.log.specs.Cells.{cellsMost, cellsOf, isNew, noted, placesOf, 
 use Rattle.log.proofs.Walking.{records-joined}
 use Rattle.log.proofs.Backwards.{Turn, sound-none, sound-back, sound-records}
 use Rattle.log.proofs.Celled.{cells-within}
-use Rattle.log.proofs.Knowing.{Knows, knows-none, knows-more, new-needless, zeros, zeros-same, zeros-fewer}
+use Rattle.log.proofs.Knowing.{Knows, knows-none, knows-more, new-needless, zeros, zeros-most, zeros-same}
+use Rattle.log.proofs.Knowing.{zeros-fewer}
 
 -- the places of the records that stay among those up to an end, with later ones behind it
 abbrev placesTo : List ℕ → ℕ → List (List ℕ) → List ℕ
@@ -48,24 +48,13 @@ going-start log places n = record {
   many = n;
   later = [];
   knows = knows-none;
-  room = subst (λ (k : ℕ). zeros 0 cellsMost (replicate cellsMost 0) ≤ k) (sym n) most;
+  room = subst (λ (k : ℕ). zeros 0 cellsMost (replicate cellsMost 0) ≤ k) (sym n)
+      (zeros-most 0 cellsMost (replicate cellsMost 0));
   top = le-refl (length places);
   same = ap sound (take-length log);
   told = λ h. ap₂ _++_ (ap (λ (l : List ℕ). placesOf [] (Option·getD (recordsOf l) [])) (take-length log)) (drop-length places)
       ∙ append-nil (placesOf [] (Option·getD (recordsOf log) []));
 }
-  where
-    few : (t : Bool) → cond t 1 0 ≤ 1
-    few true = le-refl 1
-    few false = omega arith
-
-    most : zeros 0 cellsMost (replicate cellsMost 0) ≤ cellsMost
-    most =
-        let n = length-upTo cellsMost in
-        let s = total-le (λ i. cond (eqb (getD (replicate cellsMost 0) (0 + i) 0) 0) 1 0) 1 
-        (λ i. few (eqb (getD (replicate cellsMost 0) (0 + i) 0) 0)) (upTo cellsMost) in
-        omega arith
-
 -- ---- a turn
 
 module _ (log cells places : List ℕ) (end start first : ℕ) (bytes : Bytes log) (g : Going log cells places end first)

@@ -14,7 +14,7 @@ use lib.Seq.{getD-take, getD-drop}
 use borrow.Author.Tests.{eq-eqb, eqb-true, eqb-false, le-leb, leb-true, lt-ltb, ltb-true}
 use Rattle.standard.specs.Words.{byte, upTo, total}
 use Rattle.standard.specs.Messages.{numberOf, isStatus}
-use Rattle.standard.proofs.Words.{total-mono, total-more}
+use Rattle.standard.proofs.Words.{total-le, total-mono, total-more, length-upTo}
 use Rattle.standard.proofs.Messages.{both-true, neither-true}
 use Rattle.log.specs.Room.{messageWrites, allWrites, stored, needless}
 use Rattle.log.specs.Cells.{cellsMost, cellsOf, anyZero, isNew, noted}
@@ -157,6 +157,18 @@ module _ (cells m : List ℕ) (later : List (List ℕ)) (k : Knows cells later) 
 -- of a range of cells
 abbrev pub zeros : ℕ → ℕ → List ℕ → ℕ
 zeros low many cells = total (map (λ i. cond (eqb (getD cells (low + i) 0) 0) 1 0) (upTo many))
+
+-- no more than there are
+pub zeros-most : (low many : ℕ) (cells : List ℕ) → zeros low many cells ≤ many
+zeros-most low many cells =
+    let n = length-upTo many in
+    let s =
+    total-le (λ i. cond (eqb (getD cells (low + i) 0) 0) 1 0) 1 (λ i. few (eqb (getD cells (low + i) 0) 0)) (upTo many) in
+    omega arith
+  where
+    few : (t : Bool) → cond t 1 0 ≤ 1
+    few true = le-refl 1
+    few false = omega arith
 
 -- one term less, and none more
 total-less : (f g : ℕ → ℕ) → ((x : ℕ) → f x ≤ g x) → (n i : ℕ) → i < n → f i < g i

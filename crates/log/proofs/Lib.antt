@@ -16,5 +16,6 @@ pub mod Covered
 pub mod Knowing
 pub mod Going
 pub mod Smaller
+pub mod Fewer
 pub mod Unique
 pub mod Bench

@@ -30,7 +30,7 @@ use Rattle.log.proofs.Rewritten.{alike-again-added, again-done, unstore
 -- ---- the list of those that stay
 
 -- what holds between a list with messages dropped and the list, holds between those that stay and all
-kept-by : (R : List (List ℕ) → List (List ℕ) → Type 0) → R [] []
+pub kept-by : (R : List (List ℕ) → List (List ℕ) → Type 0) → R [] []
     → ((m : List ℕ) (a b : List (List ℕ)) → R a b → R a (m ∷ b))
     → ((m : List ℕ) (a b : List (List ℕ)) → R a b → R (m ∷ a) (m ∷ b))
     → (later ms : List (List ℕ)) → R (keptOf later ms) ms
