@@ -106,7 +106,7 @@ kept-few ms f = record {
 -- ---- their bytes
 
 -- of those that stay, the second byte is one too
-kept-fine : (later ms : List (List ℕ)) → Fine ms → Fine (keptOf later ms)
+pub kept-fine : (later ms : List (List ℕ)) → Fine ms → Fine (keptOf later ms)
 kept-fine =
     kept-by (λ a b. Fine b → Fine a) (λ f. f) (λ m a b r f. r (f .2)) (λ m a b r f. (f .0, f .1, r (f .2)))
 

@@ -53,6 +53,19 @@ pub kept-adds : (s : Station) (m : List ℕ) → keepRefusal (s .buffer) (s .use
 unfolding keeping addedOf afterKeep
 kept-adds s m h = rw h refl
 
+-- the buffer is as long as it was
+pub keeping-length : (s : Station) (m : List ℕ) → length (keeping s m .buffer) ≡ length (s .buffer)
+keeping-length s m = go (eqb (keepRefusal (s .buffer) (s .used) m) 0) refl
+  where
+    go : (t : Bool) → eqb (keepRefusal (s .buffer) (s .used) m) 0 ≡ t → length (keeping s m .buffer) ≡ length (s .buffer)
+    go true e =
+        let z = eqb-true (keepRefusal (s .buffer) (s .used) m) 0 e in
+        ap (λ (t : Station). length (t .buffer)) (kept-adds s m z)
+        ∙ laid-length (s .buffer) (s .used) (recordOf m) (taken (s .buffer) (s .used) m z .room .buffer)
+    go false e =
+        ap (λ (t : Station). length (t .buffer))
+        (refused-stays s m (eqb-false (keepRefusal (s .buffer) (s .used) m) 0 e))
+
 pub kept-log : (s : Station) (m : List ℕ) → keepRefusal (s .buffer) (s .used) m ≡ 0
     → logIn (keeping s m) ≡ logIn s ++ recordOf m
 kept-log s m h =

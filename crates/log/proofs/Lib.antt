@@ -17,5 +17,6 @@ pub mod Knowing
 pub mod Going
 pub mod Smaller
 pub mod Fewer
+pub mod Always
 pub mod Unique
 pub mod Bench

@@ -21,11 +21,11 @@ use Rattle.log.proofs.Backwards.{sound-records}
 use Rattle.log.proofs.Keeping.{refused-stays, kept-records, keeping-asked, empty-asked}
 
 -- a table that took some messages, one after another
-unfoldable tookAll : List ℕ → List (List ℕ) → List ℕ
+unfoldable pub tookAll : List ℕ → List (List ℕ) → List ℕ
 tookAll t [] = t
 tookAll t (m ∷ ms) = tookAll (appliedTo t m) ms
 
-took-good : (t : List ℕ) (hs : List Handed) → tookAll t (goodIn hs) ≡ tableAfter t hs
+pub took-good : (t : List ℕ) (hs : List Handed) → tookAll t (goodIn hs) ≡ tableAfter t hs
 unfolding tookAll goodIn tableAfter
 took-good t [] = refl
 took-good t (h ∷ hs) =
