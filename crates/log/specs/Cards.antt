@@ -1,10 +1,13 @@
--- Cards for document 02, No. 6: logs, and what each call says, typed from its sentences. Assumes nothing.
+-- Cards for document 02, No. 6 and No. 7: logs, and what each call says and leaves, typed from its sentences. Assumes
+-- nothing.
 use Prim.Native.Nat.{ℕ}
-use mathlib.Core.List.{List, [], _∷_, _++_}
-use lib.ListN.{replicate}
+use mathlib.Core.List.{List, [], _∷_, _++_, flatMap}
+use lib.ListN.{length, drop, replicate}
 use Rattle.standard.specs.declared.Written.{Written}
 use Rattle.log.specs.declared.Found.{Found}
+use Rattle.standard.specs.Words.{upTo}
 use Rattle.log.specs.Log.{foundOf, addedOf}
+use Rattle.log.specs.Room.{wonOf, afterRoom}
 
 -- a question about a zone, or a message to keep, and what is said
 pub record Asked : Type 0 where
@@ -18,6 +21,16 @@ pub record Told : Type 0 where
   pub used : ℕ
   pub message : List ℕ
   pub said : ℕ × ℕ
+
+-- a log to make room in, what is said, and the records that stay
+pub record Roomed : Type 0 where
+  pub log : List ℕ
+  pub used : ℕ
+  pub said : ℕ × ℕ
+  pub left : List ℕ
+
+abbrev roomed : List ℕ → ℕ → ℕ × ℕ → List ℕ → Roomed
+roomed log used said left = record { log = log; used = used; said = said; left = left }
 
 abbrev asked : List ℕ → ℕ → ℕ → ℕ × ℕ × ℕ → Asked
 asked log used zone said = record { log = log; used = used; zone = zone; said = said }
@@ -36,6 +49,13 @@ askedOf c = found (foundOf (c .log) (c .used) (c .zone))
 
 abbrev pub toldOf : Told → ℕ × ℕ
 toldOf c = added (addedOf (c .log) (c .used) (c .message))
+
+abbrev pub roomedOf : Roomed → (ℕ × ℕ) × List ℕ
+roomedOf c = (added (wonOf (c .log) (c .used)), afterRoom (c .log) (c .used))
+
+-- "bytes beyond the new used length stay"
+abbrev pub roomedAs : Roomed → (ℕ × ℕ) × List ℕ
+roomedAs c = (c .said, c .left ++ drop (length (c .left)) (c .log))
 
 -- ---- messages: cards 4 and 5 of document 01, a partition's status with its flag set, and four that are not kept
 
@@ -119,4 +139,58 @@ telling =
     ∷ told (room 0) 0 x10 (18, 0)
     ∷ told (room 8) 0 (0x1D ∷ []) (18, 0)
     ∷ told (room 8) 0 zoneTen (9, 0)
+    ∷ []
+
+-- ---- No. 7: records to make room among
+
+-- 04h of a zone, 05h from a zone on, 06h of a partition, 07h and 08h, each with a byte by which to know it again
+abbrev zone : ℕ → ℕ → List ℕ
+zone z b = 0x04 ∷ z ∷ b ∷ 0 ∷ 0 ∷ 0 ∷ 0 ∷ 0 ∷ 8 ∷ []
+
+abbrev sixteen : ℕ → ℕ → List ℕ
+sixteen z b = 0x85 ∷ z ∷ b ∷ 0 ∷ 0 ∷ 0 ∷ 0 ∷ 0 ∷ 0 ∷ 0 ∷ 10 ∷ []
+
+abbrev partition : ℕ → ℕ → List ℕ
+partition p b = 0x06 ∷ p ∷ b ∷ 0 ∷ 0 ∷ 0 ∷ 0 ∷ 0 ∷ 0 ∷ 9 ∷ []
+
+abbrev partitions : ℕ → List ℕ
+partitions b = 0x07 ∷ b ∷ 0 ∷ 0 ∷ 0 ∷ 0 ∷ 0 ∷ 0 ∷ 0 ∷ 9 ∷ []
+
+abbrev system : ℕ → List ℕ
+system b = 0x08 ∷ b ∷ 0 ∷ 0 ∷ 0 ∷ 0 ∷ 0 ∷ 0 ∷ 0 ∷ 0 ∷ 0 ∷ 0 ∷ 12 ∷ []
+
+-- 04h of the first n zones, and 06h of all eight partitions
+abbrev zones : ℕ → List ℕ
+zones n = flatMap (λ z. zone z 7) (upTo n)
+
+abbrev allPartitions : List ℕ
+allPartitions = flatMap (λ p. partition p 7) (upTo 8)
+
+abbrev pub rooms : List Roomed
+rooms =
+    -- an empty log
+    roomed (room 3) 0 (0, 0) []
+    -- of two records of one zone the earlier goes, of two zones none; one byte of the buffer is not used
+    ∷ roomed (zone 9 1 ++ zone 9 2 ++ (0xFF ∷ [])) 18 (0, 9) (zone 9 2)
+    ∷ roomed (zone 9 1 ++ zone 8 2) 18 (0, 0) (zone 9 1 ++ zone 8 2)
+    ∷ roomed (zone 9 1 ++ zone 9 1) 18 (0, 9) (zone 9 1)
+    -- 05h does not write all that 04h does; 04h does, of one zone
+    ∷ roomed (zone 9 1 ++ sixteen 0 2) 20 (0, 0) (zone 9 1 ++ sixteen 0 2)
+    ∷ roomed (sixteen 0 1 ++ zones 16) 155 (0, 11) (zones 16)
+    ∷ roomed (sixteen 0 1 ++ zones 15) 146 (0, 0) (sixteen 0 1 ++ zones 15)
+    ∷ roomed (sixteen 1 1 ++ zones 16) 155 (0, 0) (sixteen 1 1 ++ zones 16)
+    -- "by later ones together": by 04h of eight zones and 05h of the others; of the first of three by both
+    ∷ roomed (sixteen 0 1 ++ zones 8 ++ sixteen 8 2) 94 (0, 11) (zones 8 ++ sixteen 8 2)
+    ∷ roomed (sixteen 0 1 ++ sixteen 0 2 ++ sixteen 0 3) 33 (0, 22) (sixteen 0 3)
+    ∷ roomed (sixteen 240 1 ++ sixteen 239 2 ++ sixteen 240 3) 33 (0, 11) (sixteen 239 2 ++ sixteen 240 3)
+    -- "every mark bit": 06h and 07h do not stand for each other
+    ∷ roomed (partition 3 1 ++ partitions 2) 20 (0, 0) (partition 3 1 ++ partitions 2)
+    ∷ roomed (partitions 1 ++ allPartitions) 90 (0, 0) (partitions 1 ++ allPartitions)
+    ∷ roomed (partition 3 1 ++ partition 4 2 ++ partition 3 3) 30 (0, 10) (partition 4 2 ++ partition 3 3)
+    ∷ roomed (partitions 1 ++ partition 3 2 ++ partitions 3) 30 (0, 10) (partition 3 2 ++ partitions 3)
+    ∷ roomed (system 1 ++ zone 9 2 ++ system 3) 35 (0, 13) (zone 9 2 ++ system 3)
+    -- "Refusals: 16 and 17, as in No. 6"
+    ∷ roomed (zone 9 1 ++ zone 9 2) 19 (16, 0) []
+    ∷ roomed (zone 9 1 ++ zone 9 2) 17 (17, 0) []
+    ∷ roomed (0x00 ∷ zone 9 2) 10 (17, 0) []
     ∷ []
