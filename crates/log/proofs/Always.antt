@@ -15,12 +15,11 @@ use Rattle.standard.specs.Messages.{isStatus}
 use Rattle.standard.specs.Judge.{Handed}
 use Rattle.standard.specs.Table.{tableAfter}
 use Rattle.standard.proofs.Messages.{both-true}
-use Rattle.standard.proofs.Status.{status-length}
 use Rattle.log.specs.Log.{recordOf, joined, walkedBack, allKept, recordsOf, keepRefusal}
 use Rattle.log.specs.Runs.{Station, logIn, empty, keeping, making, keepingOn, keepingOnAll, goodIn, oldestFirst}
 use Rattle.log.specs.Runs.{toldBy}
 use Rattle.log.specs.Room.{keptOf}
-use Rattle.log.proofs.Walking.{Holds, records-joined}
+use Rattle.log.proofs.Walking.{records-joined}
 use Rattle.log.proofs.Backwards.{sound-records}
 use Rattle.log.proofs.Refusing.{Inside, inside-not, Asked, taken}
 use Rattle.log.proofs.Keeping.{refused-stays, kept-records, keeping-length, keeping-asked, empty-asked}
@@ -47,8 +46,7 @@ fine-joined : (ms : List (List ℕ)) → allKept ms ≡ true → Bytes (joined m
 unfolding allKept joined
 fine-joined [] k h = tt
 fine-joined (m ∷ older) k h =
-    let b = both-true (isStatus m) (allKept older) k in
-    (
+    let b = both-true (isStatus m) (allKept older) k in (
       b .0,
       bytes-front m (length m ∷ []) (bytes-back (joined older) (recordOf m) h) 1,
       fine-joined older (b .1) (bytes-front (joined older) (recordOf m) h),

@@ -1,4 +1,5 @@
--- THE CARDS OF THE LOG: each question, each message and each log of Cards is answered as its card says. Assumes nothing.
+-- THE CARDS OF THE LOG: each question, each message and each log of Cards is answered as its card says. Assumes
+-- nothing.
 use mathlib.Core.Path.{_≡_, refl}
 use mathlib.Core.List.{map, flatMap}
 use Rattle.standard.specs.Words.{upTo}

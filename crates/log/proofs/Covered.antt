@@ -1,29 +1,28 @@
 -- A RECORD IS NEEDLESS EXACTLY IF EACH OF ITS OWN CELLS IS WRITTEN LATER. A cell stands for one place of the table: who
 -- stores there writes all that the cell stands for. Assumes nothing.
-use Prim.Native.Nat.{ℕ, zero, suc, _+_, _*_, _-_, _≤_, _<_}
+use Prim.Native.Nat.{ℕ, zero, suc, _+_, _-_, _≤_, _<_}
 use native.Mathlib.Omega.{arith}
 use mathlib.Core.Path.{_≡_, refl, sym, ap, subst, _∙_}
-use mathlib.Core.Bool.{Bool, true, false, cond, not, _&&_, _||_, false≢true}
+use mathlib.Core.Bool.{Bool, true, false, cond, _||_, false≢true}
 use mathlib.Core.List.{List, [], _∷_, _++_, flatMap, append-nil}
 use mathlib.Core.Logic.{_⊎_, inl, inr, ⊎-elim}
 use lib.Bits.{bitOr, or-self}
 use lib.Dec.{eqb, ltb}
-use lib.ListN.{length, getD, take, drop, length-take, length-drop}
-use borrow.Author.Tests.{eq-eqb, ne-eqb, eqb-true, eqb-false, lt-ltb, le-ltb, ltb-true, ltb-false}
+use lib.ListN.{length, take, drop, length-take, length-drop}
+use borrow.Author.Tests.{eq-eqb, eqb-true, lt-ltb, le-ltb, ltb-true, ltb-false}
 use Rattle.standard.specs.Words.{byte, upTo}
 use Rattle.standard.specs.Messages.{known, lengthIn, numberOf, isStatus}
 use Rattle.standard.specs.Table.{zonePlace, partitionPlace, systemPlace, Write, stores, marks, storesFrom, zoneWrites}
 use Rattle.standard.specs.Table.{shortWrites, partitionWrites, partitionShort, systemWrites, writesOf}
 use Rattle.standard.proofs.Words.{flatMap-append}
-use Rattle.standard.proofs.Messages.{both-true, or-false, passed, passed-number, passed-offset}
-use Rattle.standard.proofs.Messages.{passed-partition}
+use Rattle.standard.proofs.Messages.{or-false, passed, passed-number}
 use Rattle.standard.proofs.Table.{or-assoc, Every, every-run, every-turn}
 use Rattle.standard.proofs.Status.{status-cases, status-is, status-length}
 use Rattle.standard.proofs.Applied.{zoneRun}
 use Rattle.log.specs.declared.Cells.{Cells}
 use Rattle.log.specs.Room.{messageWrites, allWrites, stored, marked, again, allAgain, needless}
 use Rattle.log.specs.Cells.{cellsMost, cellsOf}
-use Rattle.log.proofs.Rewritten.{Alike, again-alike, stored-append, again-left, again-right, turn-again, stored-run}
+use Rattle.log.proofs.Rewritten.{again-alike, stored-append, again-left, again-right, turn-again, stored-run}
 use Rattle.log.proofs.Celled.{cells-04, cells-05, cells-06, cells-07, cells-08}
 
 -- ---- the place that a cell stands for
@@ -124,7 +123,8 @@ turn-told f (suc n) i h =
         → (stored i (flatMap f (upTo n)) ≡ true → (j : ℕ) × (j < n) × (stored i (f j) ≡ true))
         → (j : ℕ) × (j < suc n) × (stored i (f j) ≡ true)
     go true e h more = (n, omega arith, e)
-    go false e h more = let m = more (sym (or-false (stored i (flatMap f (upTo n)))) ∙ h) in (m .0, omega (arith, m .1), m .2)
+    go false e h more =
+        let m = more (sym (or-false (stored i (flatMap f (upTo n)))) ∙ h) in (m .0, omega (arith, m .1), m .2)
 
 -- of a mark, and a run or a byte behind it
 record-told : (i p bits q : ℕ) (bs : List ℕ) → stored i (marks p bits ∷ storesFrom q bs) ≡ true
@@ -138,14 +138,43 @@ pair-told i p bits q b h = eqb-true q i (sym (or-false (eqb q i)) ∙ h)
 
 -- ---- whose a cell is
 
+-- one of some cells
+abbrev InRun : Cells → ℕ → Type 0
+InRun own c = (own .first ≤ c) × (c < own .first + own .count)
+
+to-run : (c : ℕ) {own other : Cells} → own ≡ other → InRun own c → InRun other c
+to-run c e r = subst (λ (o : Cells). InRun o c) e r
+
 module _ (m : List ℕ) where
   abbrev number : ℕ
   number = numberOf (byte 1 m)
 
   -- its own, or that of its zone's short flags
   abbrev pub Owns : ℕ → Type 0
-  Owns c =
-      ((cellsOf m .first ≤ c) × (c < cellsOf m .first + cellsOf m .count)) ⊎ ((number ≡ 0x04) × (c ≡ 256 + byte 2 m))
+  Owns c = InRun (cellsOf m) c ⊎ ((number ≡ 0x04) × (c ≡ 256 + byte 2 m))
+
+  -- which cells those are, its number tells
+  owner : (P : Type 0) (c : ℕ) → isStatus m ≡ true → Owns c
+      → (number ≡ 0x04 → c ≡ byte 2 m → P)
+      → (number ≡ 0x04 → c ≡ 256 + byte 2 m → P)
+      → (number ≡ 0x05 → byte 2 m ≤ 240 → 256 + byte 2 m ≤ c → c < 256 + byte 2 m + 16 → P)
+      → (number ≡ 0x06 → byte 2 m ≤ 7 → c ≡ 512 + byte 2 m → P)
+      → (number ≡ 0x07 → c ≡ 520 → P)
+      → (number ≡ 0x08 → c ≡ 521 → P)
+      → P
+  owner P c h owns own short sixteen partition shorts system =
+      ⊎-elim
+      (λ o.
+      status-cases P m h (λ e. let r = to-run c (cells-04 m e) o in own e (only c (r .0) (r .1)))
+      (λ e off. let r = to-run c (cells-05 m e) o in sixteen e off (r .0) (r .1))
+      (λ e few. let r = to-run c (cells-06 m e) o in partition e few (only c (r .0) (r .1)))
+      (λ e. let r = to-run c (cells-07 m e) o in shorts e (only c (r .0) (r .1)))
+      (λ e. let r = to-run c (cells-08 m e) o in system e (only c (r .0) (r .1))))
+      (λ o. short (o .0) (o .1))
+      owns
+    where
+      only : (c : ℕ) {k : ℕ} → k ≤ c → c < k + 1 → c ≡ k
+      only c {k} lo hi = omega arith
 
   -- what a message of each number writes
   writes-04 : number ≡ 0x04 → messageWrites m ≡ zoneWrites m
@@ -170,8 +199,7 @@ module _ (m : List ℕ) where
 
   -- the cells of one number
   run-owned : (c : ℕ) {own : Cells} → cellsOf m ≡ own → own .first ≤ c → c < own .first + own .count → Owns c
-  run-owned c e lo hi =
-      inl (subst (λ (o : Cells). (o .first ≤ c) × (c < o .first + o .count)) (sym e) (lo, hi))
+  run-owned c e lo hi = inl (to-run c (sym e) (lo, hi))
 
   -- WHO STORES AT A CELL'S PLACE OWNS THE CELL
   pub cell-told : isStatus m ≡ true → byte 2 m < 256 → (c : ℕ) → c < cellsMost
@@ -196,7 +224,8 @@ module _ (m : List ℕ) where
       let r = record-told (cellPlace c) _ _ _ _ (to (writes-06 e)) in
       let size = length-take 7 (drop 2 m) in
       by-cell
-      (λ c p. partitionPlace (byte 2 m) + 1 ≤ p → p < partitionPlace (byte 2 m) + 1 + length (take 7 (drop 2 m)) → Owns c)
+      (λ c p. partitionPlace (byte 2 m) + 1 ≤ p → p < partitionPlace (byte 2 m) + 1 + length (take 7 (drop 2 m))
+      → Owns c)
       (λ z b lo hi. absurd (omega arith)) (λ z b lo hi. absurd (omega arith))
       (λ p b lo hi. run-owned (512 + p) (cells-06 m e) (omega arith) (omega arith)) (λ lo hi. absurd (omega arith))
       (λ lo hi. absurd (omega arith)) c among (r .0) (r .1))
@@ -220,46 +249,29 @@ module _ (m : List ℕ) where
   pub cell-stored : isStatus m ≡ true → byte 2 m < 256 → (c : ℕ) → Owns c
       → stored (cellPlace c) (messageWrites m) ≡ true
   unfolding stored
-  cell-stored h small c =
-      ⊎-elim
-      (λ own.
-      status-cases (stored (cellPlace c) (messageWrites m) ≡ true) m h
-      (λ e.
-      let r = run-of (cells-04 m e) own in let lo = r .0 in let hi = r .1 in
-      let z : c ≡ byte 2 m = omega arith in
-      at (writes-04 e) (ap cellPlace z ∙ own-place (byte 2 m) small)
+  cell-stored h small c owns =
+      owner (stored (cellPlace c) (messageWrites m) ≡ true) c h owns
+      (λ e z. at (writes-04 e) (ap cellPlace z ∙ own-place (byte 2 m) small)
       (stored-run _ _ (zoneRun m) (omega arith) (omega arith)))
-      (λ e off.
-      let r = run-of (cells-05 m e) own in let lo = r .0 in let hi = r .1 in
+      (λ e z. at (writes-04 e) (ap cellPlace z ∙ short-place (byte 2 m) small)
+      (stored-run _ _ (zoneRun m) (omega arith) (omega arith)))
+      (λ e off lo hi.
       let j = c - 256 - byte 2 m in
       let z : c ≡ 256 + (byte 2 m + j) = omega arith in
       at (writes-05 e) (ap cellPlace z ∙ short-place (byte 2 m + j) (omega arith))
-      (turn-again (shortWrites m) 16 j (stores _ 0) (omega arith) (rw (eq-eqb (zonePlace (byte 2 m + j) + 7) _ refl) refl)))
-      (λ e few.
-      let r = run-of (cells-06 m e) own in let lo = r .0 in let hi = r .1 in
-      let z : c ≡ 512 + byte 2 m = omega arith in
+      (turn-again (shortWrites m) 16 j (stores _ 0) (omega arith)
+      (rw (eq-eqb (zonePlace (byte 2 m + j) + 7) _ refl) refl)))
+      (λ e few z.
       let size = length-take 7 (drop 2 m) in
       let rest = length-drop 2 m in
       let long = status-length m h in
       at (writes-06 e) (ap cellPlace z ∙ partition-cell (byte 2 m) (omega arith))
       (stored-run _ _ (take 7 (drop 2 m)) (omega arith) (omega arith)))
-      (λ e.
-      let r = run-of (cells-07 m e) own in let lo = r .0 in let hi = r .1 in
-      let z : c ≡ 520 = omega arith in
-      at (writes-07 e) (ap cellPlace z ∙ shorts-cell) (turn-again (partitionShort m) 8 0 (stores _ 0) (omega arith) refl))
-      (λ e.
-      let r = run-of (cells-08 m e) own in let lo = r .0 in let hi = r .1 in
-      let z : c ≡ 521 = omega arith in
-      at (writes-08 e) (ap cellPlace z ∙ system-cell)
-      (stored-run systemPlace systemPlace (1 ∷ take 11 (drop 1 m)) (omega arith) (omega arith))))
-      (λ own.
-      at (writes-04 (own .0)) (ap cellPlace (own .1) ∙ short-place (byte 2 m) small)
-      (stored-run _ _ (zoneRun m) (omega arith) (omega arith)))
+      (λ e z. at (writes-07 e) (ap cellPlace z ∙ shorts-cell)
+      (turn-again (partitionShort m) 8 0 (stores _ 0) (omega arith) refl))
+      (λ e z. at (writes-08 e) (ap cellPlace z ∙ system-cell)
+      (stored-run systemPlace systemPlace (1 ∷ take 11 (drop 1 m)) (omega arith) (omega arith)))
     where
-      run-of : {o : Cells} → cellsOf m ≡ o → (cellsOf m .first ≤ c) × (c < cellsOf m .first + cellsOf m .count)
-          → (o .first ≤ c) × (c < o .first + o .count)
-      run-of e own = subst (λ (o : Cells). (o .first ≤ c) × (c < o .first + o .count)) e own
-
       at : {ws : List Write} {i : ℕ} → messageWrites m ≡ ws → cellPlace c ≡ i → stored i ws ≡ true
           → stored (cellPlace c) (messageWrites m) ≡ true
       at {ws} {i} e p told = ap (stored (cellPlace c)) e ∙ ap (λ (k : ℕ). stored k ws) p ∙ told
@@ -271,11 +283,6 @@ every-again : (later ws : List Write) → Every (λ w. again later w ≡ true) w
 unfolding allAgain
 every-again later [] h = refl
 every-again later (w ∷ ws) h = rw (h .0, every-again later ws (h .1)) refl
-
-again-every : (later ws : List Write) → allAgain later ws ≡ true → Every (λ w. again later w ≡ true) ws
-unfolding allAgain
-again-every later [] h = tt
-again-every later (w ∷ ws) h = let b = both-true (again later w) (allAgain later ws) h in (b .0, again-every later ws (b .1))
 
 -- by more than one list, if by one
 every-more : {P Q : Write → Type 0} → ((w : Write) → P w → Q w) → (ws : List Write) → Every P ws → Every Q ws
@@ -308,19 +315,24 @@ module _ (z b : ℕ) (n : List ℕ) where
   short-04 : byte 2 n ≡ z → Every (λ w. again (zoneWrites n) w ≡ true) short
   unfolding stored
   short-04 e =
-      let at : zonePlace (byte 2 n) ≡ zonePlace z = ap zonePlace e in
-      (mark-again 1 3 (storesFrom (zonePlace (byte 2 n) + 1) (zoneRun n)) at refl,
-      (stored-run (zonePlace z + 7) (zonePlace (byte 2 n) + 1) (zoneRun n) (omega arith) (omega arith), tt))
+      let at : zonePlace (byte 2 n) ≡ zonePlace z = ap zonePlace e in (
+        mark-again 1 3 (storesFrom (zonePlace (byte 2 n) + 1) (zoneRun n)) at refl,
+        (stored-run (zonePlace z + 7) (zonePlace (byte 2 n) + 1) (zoneRun n) (omega arith) (omega arith), tt),
+      )
 
   short-05 : byte 2 n ≤ z → z < byte 2 n + 16
       → Every (λ w. again (flatMap (shortWrites n) (upTo 16)) w ≡ true) short
   unfolding stored
   short-05 lo hi =
       let j = z - byte 2 n in
-      let at : zonePlace (byte 2 n + j) ≡ zonePlace z = omega arith in
-      (turn-again (shortWrites n) 16 j (marks (zonePlace z) 1) (omega arith) (mark-again 1 1 _ at refl),
-      (turn-again (shortWrites n) 16 j (stores (zonePlace z + 7) b) (omega arith)
-      (rw (eq-eqb (zonePlace (byte 2 n + j) + 7) (zonePlace z + 7) (omega arith)) refl), tt))
+      let at : zonePlace (byte 2 n + j) ≡ zonePlace z = omega arith in (
+        turn-again (shortWrites n) 16 j (marks (zonePlace z) 1) (omega arith) (mark-again 1 1 _ at refl),
+        (
+          turn-again (shortWrites n) 16 j (stores (zonePlace z + 7) b) (omega arith)
+              (rw (eq-eqb (zonePlace (byte 2 n + j) + 7) (zonePlace z + 7) (omega arith)) refl),
+          tt,
+        ),
+      )
 
 -- A MESSAGE THAT OWNS A CELL DOES AGAIN what another writes for it
 module _ (m n : List ℕ) (status : isStatus m ≡ true) (good : isStatus n ≡ true) where
@@ -357,9 +369,14 @@ module _ (m n : List ℕ) (status : isStatus m ≡ true) (good : isStatus n ≡ 
   does-07 e =
       by (flatMap (partitionShort m) (upTo 8)) (writes-07 n e)
       (every-turn (λ w. again (flatMap (partitionShort n) (upTo 8)) w ≡ true) (partitionShort m) 8
-      (λ j l. (turn-again (partitionShort n) 8 j (marks (partitionPlace j) 1) l (mark-again 1 1 _ refl refl),
-      (turn-again (partitionShort n) 8 j (stores (partitionPlace j + 8) (byte (2 + j) m)) l
-      (rw (eq-eqb (partitionPlace j + 8) (partitionPlace j + 8) refl) refl), tt))))
+      (λ j l. (
+        turn-again (partitionShort n) 8 j (marks (partitionPlace j) 1) l (mark-again 1 1 _ refl refl),
+        (
+          turn-again (partitionShort n) 8 j (stores (partitionPlace j + 8) (byte (2 + j) m)) l
+              (rw (eq-eqb (partitionPlace j + 8) (partitionPlace j + 8) refl) refl),
+          tt,
+        ),
+      )))
 
   does-08 : numberOf (byte 1 m) ≡ 0x08 → numberOf (byte 1 n) ≡ 0x08 → Does (systemWrites m)
   does-08 d e =
@@ -412,30 +429,6 @@ writer i (m ∷ later) f h =
           among = λ v k. again-right (messageWrites m) (allWrites later) v (w .among v k);
         }
 
--- who owns a cell is told by its number
-owner : (P : Type 0) (n : List ℕ) (c : ℕ) → isStatus n ≡ true → Owns n c
-    → (numberOf (byte 1 n) ≡ 0x04 → c ≡ byte 2 n → P)
-    → (numberOf (byte 1 n) ≡ 0x04 → c ≡ 256 + byte 2 n → P)
-    → (numberOf (byte 1 n) ≡ 0x05 → 256 + byte 2 n ≤ c → c < 256 + byte 2 n + 16 → P)
-    → (numberOf (byte 1 n) ≡ 0x06 → c ≡ 512 + byte 2 n → P)
-    → (numberOf (byte 1 n) ≡ 0x07 → c ≡ 520 → P)
-    → (numberOf (byte 1 n) ≡ 0x08 → c ≡ 521 → P)
-    → P
-owner P n c h owns own short sixteen partition shorts system =
-    ⊎-elim
-    (λ o.
-    status-cases P n h (λ e. let r = run (cells-04 n e) o in let lo = r .0 in let hi = r .1 in own e (omega arith))
-    (λ e off. let r = run (cells-05 n e) o in sixteen e (r .0) (r .1))
-    (λ e few. let r = run (cells-06 n e) o in let lo = r .0 in let hi = r .1 in partition e (omega arith))
-    (λ e. let r = run (cells-07 n e) o in let lo = r .0 in let hi = r .1 in shorts e (omega arith))
-    (λ e. let r = run (cells-08 n e) o in let lo = r .0 in let hi = r .1 in system e (omega arith)))
-    (λ o. short (o .0) (o .1))
-    owns
-  where
-    run : {o : Cells} → cellsOf n ≡ o → (cellsOf n .first ≤ c) × (c < cellsOf n .first + cellsOf n .count)
-        → (o .first ≤ c) × (c < o .first + o .count)
-    run e r = subst (λ (o : Cells). (o .first ≤ c) × (c < o .first + o .count)) e r
-
 module _ (m : List ℕ) (later : List (List ℕ)) (status : isStatus m ≡ true) (small : byte 2 m < 256) where
   -- every cell of its own is written later
   abbrev pub Covered : Type 0
@@ -459,8 +452,7 @@ module _ (m : List ℕ) (later : List (List ℕ)) (status : isStatus m ≡ true)
       → ((n : List ℕ) (g : isStatus n ≡ true) → byte 2 n < 256 → Owns n c → Does m n status g ws)
       → Again ws
   one-cell fine all {o} e c lo hi most ws does =
-      let r : (cellsOf m .first ≤ c) × (c < cellsOf m .first + cellsOf m .count) =
-      subst (λ (o : Cells). (o .first ≤ c) × (c < o .first + o .count)) (sym e) (lo, hi) in
+      let r = to-run c (sym e) (lo, hi) in
       let w = writer (cellPlace c) later fine (all c (r .0) (r .1)) in
       every-more (w .among) ws
       (does (w .message) (w .status) (w .small) (cell-told (w .message) (w .status) (w .small) c most (w .there)))
@@ -473,45 +465,41 @@ module _ (m : List ℕ) (later : List (List ℕ)) (status : isStatus m ≡ true)
       (λ e.
       subst Again (sym (writes-04 m e))
       (one-cell fine all (cells-04 m e) (byte 2 m) (omega arith) (omega arith) (omega arith) (zoneWrites m)
-      (λ n g b o. owner (Does m n status g (zoneWrites m)) n (byte 2 m) g o (λ d q. does-04 m n status g d (sym q))
-      (λ d q. absurd (omega arith)) (λ d l k. absurd (omega arith)) (λ d q. absurd (omega arith))
+      (λ n g b o.
+      owner n (Does m n status g (zoneWrites m)) (byte 2 m) g o (λ d q. does-04 m n status g d (sym q))
+      (λ d q. absurd (omega arith)) (λ d k lo hi. absurd (omega arith)) (λ d k q. absurd (omega arith))
       (λ d q. absurd (omega arith)) (λ d q. absurd (omega arith)))))
       (λ e off.
       subst Again (sym (writes-05 m e))
       (every-turn (λ w. again (allWrites later) w ≡ true) (shortWrites m) 16
       (λ j l.
-      one-cell fine all (cells-05 m e) (256 + (byte 2 m + j)) (omega arith) (omega arith) (omega arith) (shortWrites m j)
-      (λ n g b o. owner (Does m n status g (shortWrites m j)) n (256 + (byte 2 m + j)) g o (λ d q. absurd (omega arith))
+      let c = 256 + (byte 2 m + j) in
+      one-cell fine all (cells-05 m e) c (omega arith) (omega arith) (omega arith) (shortWrites m j)
+      (λ n g b o.
+      owner n (Does m n status g (shortWrites m j)) c g o (λ d q. absurd (omega arith))
       (λ d q. by m n status g (shortWrites m j) (writes-04 n d) (short-04 (byte 2 m + j) 0 n (omega arith)))
-      (λ d lo hi. by m n status g (shortWrites m j) (writes-05 n d)
-      (short-05 (byte 2 m + j) 0 n (omega arith) (omega arith)))
-      (λ d q. absurd (omega arith)) (λ d q. absurd (omega arith)) (λ d q. absurd (omega arith))))))
+      (λ d k lo hi.
+      by m n status g (shortWrites m j) (writes-05 n d) (short-05 (byte 2 m + j) 0 n (omega arith) (omega arith)))
+      (λ d k q. absurd (omega arith)) (λ d q. absurd (omega arith)) (λ d q. absurd (omega arith))))))
       (λ e few.
       subst Again (sym (writes-06 m e))
       (one-cell fine all (cells-06 m e) (512 + byte 2 m) (omega arith) (omega arith) (omega arith) (partitionWrites m)
-      (λ n g b o. owner (Does m n status g (partitionWrites m)) n (512 + byte 2 m) g o (λ d q. absurd (omega arith))
-      (λ d q. absurd (omega arith)) (λ d l k. absurd (beyond-05 n g d (omega arith)))
-      (λ d q. does-06 m n status g e d (omega arith))
-      (λ d q. absurd (omega arith)) (λ d q. absurd (omega arith)))))
+      (λ n g b o.
+      owner n (Does m n status g (partitionWrites m)) (512 + byte 2 m) g o (λ d q. absurd (omega arith))
+      (λ d q. absurd (omega arith)) (λ d k lo hi. absurd (omega arith))
+      (λ d k q. does-06 m n status g e d (omega arith)) (λ d q. absurd (omega arith)) (λ d q. absurd (omega arith)))))
       (λ e.
       subst Again (sym (writes-07 m e))
       (one-cell fine all (cells-07 m e) 520 (omega arith) (omega arith) (omega arith)
       (flatMap (partitionShort m) (upTo 8))
-      (λ n g b o. owner (Does m n status g (flatMap (partitionShort m) (upTo 8))) n 520 g o
-      (λ d q. absurd (omega arith))
-      (λ d q. absurd (omega arith)) (λ d l k. absurd (beyond-05 n g d (omega arith)))
-      (λ d q. absurd (beyond-06 n g d (omega arith)))
+      (λ n g b o.
+      owner n (Does m n status g (flatMap (partitionShort m) (upTo 8))) 520 g o (λ d q. absurd (omega arith))
+      (λ d q. absurd (omega arith)) (λ d k lo hi. absurd (omega arith)) (λ d k q. absurd (omega arith))
       (λ d q. does-07 m n status g d) (λ d q. absurd (omega arith)))))
       (λ e.
       subst Again (sym (writes-08 m e))
       (one-cell fine all (cells-08 m e) 521 (omega arith) (omega arith) (omega arith) (systemWrites m)
-      (λ n g b o. owner (Does m n status g (systemWrites m)) n 521 g o (λ d q. absurd (omega arith))
-      (λ d q. absurd (omega arith)) (λ d l k. absurd (beyond-05 n g d (omega arith)))
-      (λ d q. absurd (beyond-06 n g d (omega arith)))
+      (λ n g b o.
+      owner n (Does m n status g (systemWrites m)) 521 g o (λ d q. absurd (omega arith))
+      (λ d q. absurd (omega arith)) (λ d k lo hi. absurd (omega arith)) (λ d k q. absurd (omega arith))
       (λ d q. absurd (omega arith)) (λ d q. does-08 m n status g e d)))))
-    where
-      beyond-05 : (n : List ℕ) → isStatus n ≡ true → numberOf (byte 1 n) ≡ 0x05 → 240 < byte 2 n → ⊥
-      beyond-05 n g d h = let off = passed-offset n (passed n (status-is n g .0)) d in omega arith
-
-      beyond-06 : (n : List ℕ) → isStatus n ≡ true → numberOf (byte 1 n) ≡ 0x06 → 7 < byte 2 n → ⊥
-      beyond-06 n g d h = let few = passed-partition n (passed n (status-is n g .0)) d in omega arith

@@ -2,12 +2,12 @@
 -- at most 5,223 bytes: each that stays has a cell of its own number that nothing later writes. Assumes nothing.
 use Prim.Native.Nat.{ℕ, _+_, _*_, _≤_, _<_}
 use native.Mathlib.Omega.{arith}
-use mathlib.Core.Path.{_≡_, refl, sym, ap, subst, _∙_}
+use mathlib.Core.Path.{_≡_, refl, ap, subst, _∙_}
 use mathlib.Core.Bool.{Bool, true, false, cond, not}
-use mathlib.Core.List.{List, [], _∷_, _++_}
+use mathlib.Core.List.{List, [], _∷_}
 use lib.Dec.{eqb}
 use lib.ListN.{length, replicate, length-append}
-use borrow.Author.Tests.{eqb-true, eq-eqb}
+use borrow.Author.Tests.{eqb-true}
 use Rattle.standard.specs.Words.{byte}
 use Rattle.standard.specs.Messages.{known, lengthIn, numberOf, isStatus}
 use Rattle.standard.proofs.Messages.{passed, passed-number}
@@ -73,7 +73,8 @@ few-later n cells later (m ∷ older) k f =
         let less = zeros-same cells m later k (f .0) (f .1) (range n .first) (range n .count) in rw q (omega arith)
     go false e true q s =
         let is = eqb-true (numberOf (byte 1 m)) n q in
-        let a : Among (cellsOf m) (range n) = subst (λ (j : ℕ). Among (cellsOf m) (range j)) is (among m (f .0) (f .1)) in
+        let a : Among (cellsOf m) (range n) =
+        subst (λ (j : ℕ). Among (cellsOf m) (range j)) is (among m (f .0) (f .1)) in
         let fewer =
         zeros-fewer cells m later k (f .0) (f .1) (range n .first) (range n .count) (a .low) (a .high)
         (new ∙ ap not e) in

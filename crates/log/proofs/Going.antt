@@ -1,23 +1,21 @@
 -- Laws of the walk back that decides which records stay: THE PLACES REMEMBERED ARE THOSE OF THE RECORDS THAT STAY, and
 -- there is a place left for each. Assumes nothing.
-use Prim.Native.Nat.{ℕ, zero, suc, _+_, _*_, _-_, _≤_, _<_}
+use Prim.Native.Nat.{ℕ, suc, _+_, _-_, _≤_, _<_}
 use native.Mathlib.Nat.{le-refl}
 use native.Mathlib.Omega.{arith}
-use mathlib.Core.Path.{_≡_, refl, sym, ap, ap₂, subst, _∙_}
-use mathlib.Core.Bool.{Bool, true, false, cond, not, false≢true}
+use mathlib.Core.Path.{_≡_, sym, ap, ap₂, subst, _∙_}
+use mathlib.Core.Bool.{true, false, cond, not, false≢true}
 use mathlib.Core.Option.{Option, none, some, Option·map, Option·getD}
 use mathlib.Core.List.{List, [], _∷_, _++_, append-assoc, append-nil}
-use lib.Dec.{eqb}
 use lib.ListN.{length, getD, take, drop, set, replicate, length-take, length-drop, length-set}
 use lib.Seq.{take-length, drop-length, length-take-le, getD-take, getD-drop, drop-cons, drop-set-lt, getD-set-same}
 use borrow.Author.Tests.{not-true, not-false}
-use Rattle.standard.specs.Words.{Bytes, byte, upTo}
+use Rattle.standard.specs.Words.{Bytes, byte}
 use Rattle.standard.specs.Messages.{isStatus}
 use Rattle.standard.proofs.Status.{status-length}
-use Rattle.log.specs.Log.{joined, lastMessage, allKept, walkedBack, recordsOf, isList, sound}
-use Rattle.log.specs.Places.{startOf}
+use Rattle.log.specs.Log.{joined, lastMessage, allKept, walkedBack, recordsOf, sound}
 use Rattle.log.specs.Room.{needless}
-use Rattle.log.specs.Cells.{cellsMost, cellsOf, isNew, noted, placesOf, placesIn, Walks}
+use Rattle.log.specs.Cells.{cellsMost, isNew, noted, placesOf, placesIn, Walks}
 use Rattle.log.proofs.Walking.{records-joined}
 use Rattle.log.proofs.Backwards.{Turn, sound-none, sound-back, sound-records}
 use Rattle.log.proofs.Celled.{cells-within}
@@ -52,9 +50,11 @@ going-start log places n = record {
       (zeros-most 0 cellsMost (replicate cellsMost 0));
   top = le-refl (length places);
   same = ap sound (take-length log);
-  told = λ h. ap₂ _++_ (ap (λ (l : List ℕ). placesOf [] (Option·getD (recordsOf l) [])) (take-length log)) (drop-length places)
+  told = λ h.
+      ap₂ _++_ (ap (λ (l : List ℕ). placesOf [] (Option·getD (recordsOf l) [])) (take-length log)) (drop-length places)
       ∙ append-nil (placesOf [] (Option·getD (recordsOf log) []));
 }
+
 -- ---- a turn
 
 module _ (log cells places : List ℕ) (end start first : ℕ) (bytes : Bytes log) (g : Going log cells places end first)
@@ -100,12 +100,13 @@ module _ (log cells places : List ℕ) (end start first : ℕ) (bytes : Bytes lo
       let inside = g .within in
       let n = long in
       let begins : length (joined older) ≡ start =
-      ap length (sym (records-joined (take start log) older (all .1) .bytes)) ∙ length-take-le start log (omega arith) in
+      ap length (sym (records-joined (take start log) older (all .1) .bytes))
+      ∙ length-take-le start log (omega arith) in
       let last : length (joined older) + length m ≡ end - 1 = omega arith in
       ap (λ (w : Option (List (List ℕ))). placesOf (g .later) (Option·getD w [])) whole
       ∙ ap (λ (k : ℕ). placesOf (m ∷ g .later) older ++ cond (needless (g .later) m) [] (k ∷ [])) last
-      ∙ ap (λ (w : Option (List (List ℕ))). placesOf (m ∷ g .later) (Option·getD w []) ++ cond (needless (g .later) m) [] ((end - 1) ∷ []))
-      (sym (all .1))
+      ∙ ap (λ (w : Option (List (List ℕ))).
+      placesOf (m ∷ g .later) (Option·getD w []) ++ cond (needless (g .later) m) [] ((end - 1) ∷ [])) (sym (all .1))
 
   new : isNew cells m ≡ not (needless (g .later) m)
   new = new-needless cells m (g .later) (g .knows) status small
@@ -126,7 +127,8 @@ module _ (log cells places : List ℕ) (end start first : ℕ) (bytes : Bytes lo
         top = g .top;
         same = also;
         told = λ s. ap (λ (l : List ℕ). l ++ drop first places)
-            (sym (step s ∙ ap (λ b. placesTo log start (m ∷ g .later) ++ cond b [] ((end - 1) ∷ [])) gone ∙ append-nil (placesTo log start (m ∷ g .later))))
+            (sym (step s ∙ ap (λ b. placesTo log start (m ∷ g .later) ++ cond b [] ((end - 1) ∷ [])) gone
+            ∙ append-nil (placesTo log start (m ∷ g .later))))
             ∙ g .told s;
       }
     where

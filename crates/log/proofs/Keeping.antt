@@ -57,7 +57,8 @@ kept-adds s m h = rw h refl
 pub keeping-length : (s : Station) (m : List ℕ) → length (keeping s m .buffer) ≡ length (s .buffer)
 keeping-length s m = go (eqb (keepRefusal (s .buffer) (s .used) m) 0) refl
   where
-    go : (t : Bool) → eqb (keepRefusal (s .buffer) (s .used) m) 0 ≡ t → length (keeping s m .buffer) ≡ length (s .buffer)
+    go : (t : Bool) → eqb (keepRefusal (s .buffer) (s .used) m) 0 ≡ t
+        → length (keeping s m .buffer) ≡ length (s .buffer)
     go true e =
         let z = eqb-true (keepRefusal (s .buffer) (s .used) m) 0 e in
         ap (λ (t : Station). length (t .buffer)) (kept-adds s m z)

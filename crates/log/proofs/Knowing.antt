@@ -6,7 +6,7 @@ use native.Mathlib.Numerals.{add-one}
 use native.Mathlib.Omega.{arith}
 use mathlib.Core.Path.{_≡_, refl, sym, ap, subst, _∙_}
 use mathlib.Core.Bool.{Bool, true, false, cond, not, _&&_, _||_, false≢true}
-use mathlib.Core.List.{List, [], _∷_, _++_, map}
+use mathlib.Core.List.{List, [], _∷_, map}
 use mathlib.Core.Logic.{⊎-elim, inl, inr}
 use lib.Dec.{eqb, ltb, leb}
 use lib.ListN.{length, getD, take, drop, replicate, length-take, length-drop, length-replicate, getD-replicate}
@@ -80,7 +80,8 @@ module _ (cells m : List ℕ) (later : List (List ℕ)) (k : Knows cells later) 
   own-many = let f = fit in simp (length-take, length-drop) (omega arith)
 
   own-at : (i : ℕ) → i < cellsOf m .count → getD own i 0 ≡ getD cells (cellsOf m .first + i) 0
-  own-at i h = getD-take (cellsOf m .count) (drop (cellsOf m .first) cells) i 0 h ∙ getD-drop (cellsOf m .first) cells i 0
+  own-at i h =
+      getD-take (cellsOf m .count) (drop (cellsOf m .first) cells) i 0 h ∙ getD-drop (cellsOf m .first) cells i 0
 
 -- one of some cells is not written yet, or all are
 any-zero : (l : List ℕ) → anyZero l ≡ true → (i : ℕ) × (i < length l) × (getD l i 0 ≡ 0)
@@ -122,8 +123,8 @@ module _ (cells m : List ℕ) (later : List (List ℕ)) (k : Knows cells later) 
   unfolding isNew
   new-needless = go (isNew cells m) refl (needless later m) refl
     where
-      written : (c : ℕ) → c < cellsMost → (getD cells c 0 ≡ 0 → ⊥) → (t : Bool) → stored (cellPlace c) (allWrites later) ≡ t
-          → t ≡ true
+      written : (c : ℕ) → c < cellsMost → (getD cells c 0 ≡ 0 → ⊥)
+          → (t : Bool) → stored (cellPlace c) (allWrites later) ≡ t → t ≡ true
       written c h z true e = refl
       written c h z false e = absurd (z (k .each c h ∙ ap (λ t. cond t 1 0) e))
 
@@ -163,7 +164,8 @@ pub zeros-most : (low many : ℕ) (cells : List ℕ) → zeros low many cells �
 zeros-most low many cells =
     let n = length-upTo many in
     let s =
-    total-le (λ i. cond (eqb (getD cells (low + i) 0) 0) 1 0) 1 (λ i. few (eqb (getD cells (low + i) 0) 0)) (upTo many) in
+    total-le (λ i. cond (eqb (getD cells (low + i) 0) 0) 1 0) 1 (λ i. few (eqb (getD cells (low + i) 0) 0))
+    (upTo many) in
     omega arith
   where
     few : (t : Bool) → cond t 1 0 ≤ 1
@@ -242,6 +244,6 @@ module _ (cells m : List ℕ) (later : List (List ℕ)) (k : Knows cells later) 
       let was : unwritten c cells ≡ 1 = rw (w .2) refl in
       let now : unwritten c (noted cells m) ≡ 0 =
       rw (owned cells m later k status small c (inl (omega arith, omega arith))) refl in
-      total-less (λ i. unwritten (low + i) (noted cells m)) (λ i. unwritten (low + i) cells) (λ i. no-more (low + i)) many
-      i (omega arith)
+      total-less (λ i. unwritten (low + i) (noted cells m)) (λ i. unwritten (low + i) cells) (λ i. no-more (low + i))
+      many i (omega arith)
       (subst (λ (j : ℕ). unwritten j (noted cells m) < unwritten j cells) (sym is) (rw (was, now) (omega arith)))

@@ -1,12 +1,12 @@
 -- Laws of moving records to the beginning, where each stands behind what was moved before. Assumes nothing.
-use Prim.Native.Nat.{ℕ, zero, suc, _+_, _-_, _≤_, _<_}
+use Prim.Native.Nat.{ℕ, suc, _+_, _-_, _≤_, _<_}
 use native.Mathlib.Nat.{add-zero, zero-add}
 use native.Mathlib.Numerals.{add-one}
 use native.Mathlib.Omega.{arith}
 use mathlib.Core.Path.{_≡_, refl, sym, ap, ap₂, subst, _∙_}
 use mathlib.Core.List.{List, [], _∷_, _++_, append-assoc, append-nil}
-use lib.ListN.{length, getD, take, drop, set, length-take, length-drop, length-append}
-use lib.Seq.{sets, length-sets, drop-set-lt, getD-drop, take-suc, take-length, drop-cons, sets-eq}
+use lib.ListN.{length, getD, take, drop, set, length-take, length-drop}
+use lib.Seq.{sets, drop-set-lt, getD-drop, take-suc, take-length, drop-cons, sets-eq}
 use Rattle.standard.specs.Words.{Put, laid}
 use Rattle.standard.proofs.Put.{put-one, put-then, put-length, put-laid}
 use Rattle.log.specs.Cells.{recordAt, recordsAt, Apart}
@@ -37,7 +37,8 @@ pub move-byte : {log log′ : List ℕ} (to from i : ℕ) → Put log to (take i
 move-byte {log} {log′} to from i p below inside =
     let part = drop from log in
     let fits : i < length part = rw length-drop (omega arith) in
-    let byte : getD log′ (from + i) 0 ≡ getD part i 0 = put-there (from + i) p (omega arith) ∙ sym (getD-drop from log i 0) in
+    let byte : getD log′ (from + i) 0 ≡ getD part i 0 =
+    put-there (from + i) p (omega arith) ∙ sym (getD-drop from log i 0) in
     let more : take i part ++ (getD log′ (from + i) 0 ∷ []) ≡ take (i + 1) part =
     ap (λ (b : ℕ). take i part ++ (b ∷ [])) byte
     ∙ sym (ap (λ (n : ℕ). take n part) (add-one i) ∙ take-suc part i 0 fits) in
@@ -174,8 +175,7 @@ moved-all log places log′ to i m e =
     let whole : take i places ≡ places = ap (λ (k : ℕ). take k places) e ∙ take-length places in
     let size = m .moved .end in
     let fits = m .fits in
-    let part = ap (recordsAt log) whole in
-    (
+    let part = ap (recordsAt log) whole in (
       size ∙ zero-add (length (recordsAt log (take i places))) ∙ ap length part,
       put-laid (m .moved) (omega arith) ∙ ap (laid log 0) part,
     )

@@ -15,7 +15,8 @@ use Rattle.standard.specs.Words.{upTo}
 use Rattle.standard.specs.Table.{Write, stores, marks, doneAll, storesFrom}
 use Rattle.standard.proofs.Words.{flatMap-append}
 use Rattle.standard.proofs.Messages.{both-true, neither-true}
-use Rattle.standard.proofs.Table.{Every, NotStored, or-assoc, doneAll-length, doneAll-append, leftBy, leftAt, doneAll-at, leftAt-append}
+use Rattle.standard.proofs.Table.{Every, NotStored, or-assoc, doneAll-length, doneAll-append, leftBy, leftAt}
+use Rattle.standard.proofs.Table.{doneAll-at, leftAt-append}
 use Rattle.log.specs.Room.{stored, marked, again, allAgain}
 
 -- ---- one list after another

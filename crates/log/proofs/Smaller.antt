@@ -6,15 +6,14 @@ use mathlib.Core.Path.{_≡_, refl, sym, ap, ap₂, subst, _∙_}
 use mathlib.Core.Bool.{Bool, true, false, cond}
 use mathlib.Core.Option.{Option, some, Option·getD}
 use mathlib.Core.List.{List, [], _∷_, _++_, append-assoc, append-nil}
-use lib.Dec.{eqb}
-use lib.ListN.{length, getD, take, drop, length-append, length-drop, take-append-drop}
-use lib.Seq.{take-at, drop-at, getD-at, take-all, length-take-le}
+use lib.ListN.{length, getD, take, drop, length-append, take-append-drop}
+use lib.Seq.{take-at, drop-at, getD-at, length-take-le}
 use borrow.Author.Tests.{ne-eqb}
 use Rattle.standard.specs.Words.{laid}
 use Rattle.log.specs.Log.{recordOf, joined, recordsOf, sound, beyond, logRefusal}
 use Rattle.log.specs.Room.{needless, keptOf, smaller, wonOf, afterRoom, MakesRoom}
-use Rattle.log.specs.Cells.{cellsMost, placesOf, placesIn, recordAt, recordsAt, Apart, Walks}
-use Rattle.log.proofs.Walking.{Holds, records-joined}
+use Rattle.log.specs.Cells.{placesOf, placesIn, recordAt, recordsAt, Apart}
+use Rattle.log.proofs.Walking.{records-joined}
 use Rattle.log.proofs.Backwards.{sound-records}
 use Rattle.log.proofs.Refusing.{log-16, log-else}
 use Rattle.log.proofs.Which.{kept-shorter}
@@ -57,7 +56,8 @@ pub stay : (later ms : List (List ℕ)) (rest : List ℕ)
 unfolding placesOf joined keptOf recordsAt Apart Below
 stay later [] rest = record { apart = tt; below = tt; records = refl }
 stay later (m ∷ older) rest =
-    subst (λ (l : List ℕ). Stay l (length (joined older ++ recordOf m)) (placesOf later (m ∷ older)) (keptOf later (m ∷ older)))
+    subst (λ (l : List ℕ).
+    Stay l (length (joined older ++ recordOf m)) (placesOf later (m ∷ older)) (keptOf later (m ∷ older)))
     (sym (append-assoc (joined older) (recordOf m) rest))
     (go (needless later m) (stay (m ∷ later) older (recordOf m ++ rest)))
   where
@@ -116,7 +116,8 @@ stay later (m ∷ older) rest =
         record {
           apart = apart-append log 0 (length before) ps last (s .apart) (omega arith) (s .below) inside (omega arith);
           below = below-append (length (before ++ recordOf m)) ps (last ∷ [])
-              (below-more (length before) (length (before ++ recordOf m)) ps (omega arith) (s .below)) (omega arith, tt);
+              (below-more (length before) (length (before ++ recordOf m)) ps (omega arith) (s .below))
+              (omega arith, tt);
           records = records-append log ps (last ∷ [])
               ∙ ap₂ _++_ (s .records) (records-one log last ∙ there);
         }
@@ -124,7 +125,8 @@ stay later (m ∷ older) rest =
 -- ---- what `make_room` promises
 
 module _ (log : List ℕ) (used : ℕ) where
-  refused : {n : ℕ} → n ≡ logRefusal log used → (n ≡ 0 → ⊥) → MakesRoom log used (record { number = n; length = 0 }) log
+  refused : {n : ℕ} → n ≡ logRefusal log used → (n ≡ 0 → ⊥)
+      → MakesRoom log used (record { number = n; length = 0 }) log
   unfolding wonOf afterRoom
   refused {n} e h =
       let no = ne-eqb (logRefusal log used) 0 (λ z. h (e ∙ z)) in

@@ -1,20 +1,19 @@
 -- WHICH RECORDS STAY: every later one is counted, dropped or not, and it is no matter; what they tell a table, and the
 -- newest record about a zone, are told by those that stay. Assumes nothing.
-use Prim.Native.Nat.{ℕ, zero, suc, _+_, _-_, _≤_, _<_}
+use Prim.Native.Nat.{ℕ, _+_, _-_, _≤_, _<_}
 use native.Mathlib.Nat.{le-refl}
 use native.Mathlib.Omega.{arith}
 use mathlib.Core.Path.{_≡_, refl, sym, ap, _∙_}
-use mathlib.Core.Bool.{Bool, true, false, cond, _||_, or-true, or-false, false≢true}
-use mathlib.Core.List.{List, [], _∷_, _++_, flatMap, append-nil, Sublist, Sublist·cons, Sublist·cons-cons, nil-sublist}
+use mathlib.Core.Bool.{Bool, true, false, cond, or-false, false≢true}
+use mathlib.Core.List.{List, [], _∷_, flatMap, Sublist, Sublist·cons, Sublist·cons-cons, nil-sublist}
 use lib.Dec.{eqb}
 use lib.ListN.{length, take, drop, length-append}
-use borrow.Author.Tests.{eq-eqb, ne-eqb, le-leb, eqb-true, eqb-false, leb-true}
+use borrow.Author.Tests.{eq-eqb, le-leb, eqb-true, eqb-false, leb-true}
 use Rattle.standard.specs.Words.{byte, upTo}
 use Rattle.standard.specs.Messages.{numberOf, within, isStatus}
-use Rattle.standard.specs.Table.{tableBytes, zonePlace, partitionPlace, systemPlace, isTable, Write, stores, marks}
+use Rattle.standard.specs.Table.{tableBytes, zonePlace, partitionPlace, systemPlace, isTable, stores}
 use Rattle.standard.specs.Table.{storesFrom, zoneWrites, shortWrites, partitionShort, writesOf, doneAll}
 use Rattle.standard.specs.Table.{appliedTo, tableAfter}
-use Rattle.standard.proofs.Words.{flatMap-append}
 use Rattle.standard.proofs.Messages.{both-true}
 use Rattle.standard.proofs.Table.{doneAll-append, Every, NotStored, every-run, every-turn}
 use Rattle.standard.proofs.Applied.{taken-leaves, applied-length, writes-are, zoneRun}

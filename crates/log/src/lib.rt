@@ -289,10 +289,7 @@ fn walk(log: &[u8], cells: &mut [u8], places: &mut [u16]) -> Walked
     while 0 < end {
         let start = record_start(&log[..end]);
         if start == end {
-            return Walked {
-                number: 17,
-                first,
-            };
+            return Walked { number: 17, first };
         }
         let last = end - 1;
         if note(cells, &log[start..last]) {

@@ -88,9 +88,8 @@ pub status-cases : (P : Type 0) (m : List ℕ) → isStatus m ≡ true
 status-cases P m h a b c d e =
     let s = status-is m h in
     let ok = passed m (s .0) in
-    of-five (λ n. numberOf (byte 1 m) ≡ n → P) a (λ q. b q (passed-offset m ok q)) (λ q. c q (passed-partition m ok q)) d
-    e
-    (numberOf (byte 1 m)) (s .1) refl
+    of-five (λ n. numberOf (byte 1 m) ≡ n → P) a (λ q. b q (passed-offset m ok q))
+    (λ q. c q (passed-partition m ok q)) d e (numberOf (byte 1 m)) (s .1) refl
 
 -- and what is not both is not
 pub not-status : (m : List ℕ) → (checkOf m ≡ 0 → Five (numberOf (byte 1 m)) → ⊥) → isStatus m ≡ false

@@ -1,6 +1,6 @@
 -- `log::cells_of` meets its contract: an arm for each number, the last for 08h. Assumes nothing.
 use native.Mathlib.Omega.{arith}
-use mathlib.Core.Path.{_≡_, refl}
+use mathlib.Core.Path.{refl}
 use borrow.Author.Needs.{needs}
 use borrow.Author.Tests.{ne-eqb}
 use Rattle.log.specs.Cells.{cellsOf}

@@ -2,8 +2,7 @@
 -- stand apart behind them. Assumes nothing.
 use Prim.Native.Nat.{ℕ, _+_, _-_}
 use native.Mathlib.Omega.{arith}
-use mathlib.Core.Path.{_≡_, sym, subst}
-use mathlib.Core.List.{List}
+use mathlib.Core.Path.{sym, subst}
 use lib.ListN.{getD}
 use borrow.Author.Needs.{needs}
 use Rattle.standard.proofs.Put.{put-length}
@@ -55,7 +54,7 @@ loop-again c =
     let l = turn .before .loop in
     let a = turn .before .before .before .before .args in
     let went = moved-one (a .log .now) (a .places .now) (l .log) (l .to) (l .i) (l .inv) (turn .loop-test .taken)
-        (call .move-record .ensures .1) in
+    (call .move-record .ensures .1) in
     subst (λ (k : ℕ). Moved (a .log .now) (a .places .now) (call .move-record .last .0) k (l .i + 1))
     (sym (call .move-record .ensures .0)) went
 

@@ -2,10 +2,10 @@
 -- them was not. Assumes nothing.
 use Prim.Native.Nat.{ℕ, _+_, _-_, _≤_}
 use native.Mathlib.Omega.{arith}
-use mathlib.Core.Path.{_≡_, refl, sym, ap, subst, _∙_}
+use mathlib.Core.Path.{_≡_, refl, sym, ap, _∙_}
 use mathlib.Core.List.{List, _++_, append-nil}
 use mathlib.Core.Logic.{⊎-elim}
-use lib.ListN.{length, getD, take, drop, set, replicate}
+use lib.ListN.{length, getD, take, set, replicate}
 use lib.Seq.{take-length, drop-length}
 use borrow.Author.Needs.{needs}
 use Rattle.log.specs.Cells.{anyZero}
@@ -48,12 +48,11 @@ loop-again c =
     let cells = c .before .before .before .before .args .cells .now in
     let inside = c .before .before .loop-test .taken in
     let here : getD (l .cells) (l .i) 0 ≡ getD cells (l .i) 0 =
-    ap (λ (s : List ℕ). getD s (l .i) 0) (l .inv .1) ∙ filled-next cells (l .i) inside in
-    (
+    ap (λ (s : List ℕ). getD s (l .i) 0) (l .inv .1) ∙ filled-next cells (l .i) inside in (
       ⊎-elim
-      (λ w. w .1 ∙ any-new cells (l .i) inside (sym here ∙ w .0 .taken))
-      (λ w. w .1 ∙ l .inv .0 ∙ any-old cells (l .i) inside (λ z. w .0 .left (here ∙ z)))
-      (c .if1 .came),
+          (λ w. w .1 ∙ any-new cells (l .i) inside (sym here ∙ w .0 .taken))
+          (λ w. w .1 ∙ l .inv .0 ∙ any-old cells (l .i) inside (λ z. w .0 .left (here ∙ z)))
+          (c .if1 .came),
       ap (λ (s : List ℕ). set s (l .i) 1) (l .inv .1) ∙ filled-more cells (l .i) inside,
       omega arith,
     )
@@ -69,13 +68,12 @@ returns c =
     let cells = c .before .before .args .cells .now in
     let within = l .inv .2 in
     let left = c .loop-test .left in
-    let whole : l .i ≡ length cells = omega arith in
-    (
+    let whole : l .i ≡ length cells = omega arith in (
       l .inv .0 ∙ ap (λ (k : ℕ). anyZero (take k cells)) whole ∙ ap anyZero (take-length cells),
       l .inv .1
-      ∙ ap (filled cells) whole
-      ∙ ap (λ (r : List ℕ). replicate (length cells) 1 ++ r) (drop-length cells)
-      ∙ append-nil (replicate (length cells) 1),
+          ∙ ap (filled cells) whole
+          ∙ ap (λ (r : List ℕ). replicate (length cells) 1 ++ r) (drop-length cells)
+          ∙ append-nil (replicate (length cells) 1),
     )
 
 pub fill-spec : {M : Type 1} → statement M

@@ -1,14 +1,13 @@
 -- `log::make_room` meets its contract: nothing is moved before the walk has come to the beginning. Assumes nothing.
-use Prim.Native.Nat.{ℕ, _-_, _≤_}
+use Prim.Native.Nat.{ℕ, _-_}
 use native.Mathlib.Omega.{arith}
-use mathlib.Core.Path.{_≡_, refl, sym, ap, _∙_}
+use mathlib.Core.Path.{_≡_, refl, sym, _∙_}
 use mathlib.Core.Bool.{Bool, true, false, cond}
-use mathlib.Core.List.{List}
-use lib.ListN.{length, take, drop, length-drop}
+use lib.ListN.{take, drop, length-drop}
 use lib.Seq.{take-all, length-take-le}
 use borrow.Author.Needs.{needs}
 use Rattle.log.specs.Log.{sound, beyond}
-use Rattle.log.specs.Cells.{cellsMost, placesIn, recordsAt}
+use Rattle.log.specs.Cells.{cellsMost, placesIn}
 use Rattle.log.proofs.Refusing.{Inside, inside}
 use Rattle.log.proofs.Smaller.{room-16, room-else, lent-apart, left-less, room-made}
 use Rattle.log.proofs.make_room.Statement.{statement}
@@ -89,7 +88,8 @@ returns-2 : tie.Need-returns-2
 returns-2 c =
     let at = c .before .before .before .before .before .before .before .before in
     let a = start at .args in
-    room-else (a .log .now) (a .used) (within at) (c .before .before .before .before .walk .ensures .says) (c .if2 .taken)
+    room-else (a .log .now) (a .used) (within at) (c .before .before .before .before .walk .ensures .says)
+    (c .if2 .taken)
 
 mul-close-up : tie.Need-mul-close-up
 mul-close-up c = search needs
@@ -114,7 +114,8 @@ sub-t20 c =
     let close = c .before .before in
     let at = close .before .before .before .before in
     let a = start (past at) .args in
-    let l = left-less (a .log .now) (a .used) (within (past at)) (sounds at) _ (lent at) (used-inside (past at) .buffer) in
+    let inside = used-inside (past at) .buffer in
+    let l = left-less (a .log .now) (a .used) (within (past at)) (sounds at) _ (lent at) inside in
     let e = close .close-up .ensures .0 in
     omega arith
 

@@ -1,14 +1,12 @@
 -- `log::move_record` meets its contract. The loop's invariant: the first bytes of the record are put there. Assumes
 -- nothing.
-use Prim.Native.Nat.{ℕ, _+_, _-_, _≤_}
+use Prim.Native.Nat.{_+_, _-_, _≤_}
 use native.Mathlib.Omega.{arith}
-use mathlib.Core.Path.{_≡_, refl, sym, ap, _∙_}
-use mathlib.Core.List.{List}
-use lib.ListN.{length, getD, take, drop}
+use mathlib.Core.Path.{refl}
+use lib.ListN.{getD, take, drop}
 use borrow.Author.Needs.{needs}
 use Rattle.standard.specs.Words.{Put}
-use Rattle.standard.proofs.Put.{put-length, put-laid}
-use Rattle.log.specs.Cells.{recordAt}
+use Rattle.standard.proofs.Put.{put-length}
 use Rattle.log.proofs.Moving.{move-byte, move-whole}
 use Rattle.log.proofs.move_record.Statement.{statement}
 use Rattle.log.proofs.move_record.Tie as tie
@@ -79,7 +77,8 @@ loop-again c =
     let inside = pre .0 in
     let t = c .before .loop-test .taken in
     let log = a .log .now in
-    (move-byte (a .to) (a .last + 1 - (getD log (a .last) 0 + 1)) (l .i) (l .inv .0) (omega arith) (omega arith), omega arith)
+    let from = a .last + 1 - (getD log (a .last) 0 + 1) in
+    (move-byte (a .to) from (l .i) (l .inv .0) (omega arith) (omega arith), omega arith)
 
 add-result : tie.Need-add-result Inv-loop μ-loop
 add-result c = search needs

@@ -1,15 +1,12 @@
 -- `log::note` meets its contract: its own cells are filled, and 04h writes its zone's short flags too. Assumes nothing.
-use Prim.Native.Nat.{ℕ, _+_, _≤_, _<_}
+use Prim.Native.Nat.{_+_, _≤_, _<_}
 use native.Mathlib.Omega.{arith}
-use mathlib.Core.Path.{_≡_, refl, sym, ap, ap₂, subst, _∙_}
-use mathlib.Core.List.{List}
-use lib.ListN.{length, getD, take, drop, set, replicate, length-set}
+use mathlib.Core.Path.{sym, subst}
+use lib.ListN.{length}
 use borrow.Author.Needs.{needs}
-use borrow.Author.Tests.{ne-eqb}
-use Rattle.standard.specs.Words.{byte, laid}
+use Rattle.standard.specs.Words.{byte}
 use Rattle.standard.proofs.Status.{status-length}
 use Rattle.log.specs.declared.Cells.{Cells}
-use Rattle.log.specs.Cells.{cellsOf, anyZero, isNew, noted}
 use Rattle.log.proofs.Celled.{cells-within, told-new, noted-04, noted-other}
 use Rattle.log.proofs.note.Statement.{statement}
 use Rattle.log.proofs.note.Tie as tie
@@ -26,7 +23,8 @@ among c =
     subst Is (sym (c .before .cells-of .ensures)) (rw (start .pre .0) (cells-within m (start .pre .1) small))
 
 cells-of-requires : tie.Need-cells-of-requires
-cells-of-requires c κs = let long = status-length (c .before .before .args .message .now) (c .before .before .pre .1) in omega arith
+cells-of-requires c κs =
+    let long = status-length (c .before .before .args .message .now) (c .before .before .pre .1) in omega arith
 
 add-end : tie.Need-add-end
 add-end c = let h = among c in let n = c .before .before .before .before .pre .0 in omega arith
@@ -75,12 +73,11 @@ returns : tie.Need-returns
 returns c =
     let fill = c .before .before .before .before .before in
     let own = fill .before .before in
-    let a = own .before .before .before .before .args in
-    (
+    let a = own .before .before .before .before .args in (
       told-new (a .cells .now) (a .message .now) (own .before .cells-of .result) (own .before .cells-of .ensures)
-      (fill .fill .ensures .0),
+          (fill .fill .ensures .0),
       noted-04 (a .cells .now) (a .message .now) (own .before .cells-of .result) (own .before .cells-of .ensures)
-      (among own) (fill .fill .ensures .1) (c .before .if1 .taken),
+          (among own) (fill .fill .ensures .1) (c .before .if1 .taken),
     )
 
 same-length-2 : tie.Need-same-length-2
@@ -90,12 +87,11 @@ returns-2 : tie.Need-returns-2
 returns-2 c =
     let fill = c .before .before .before .before in
     let own = fill .before .before in
-    let a = own .before .before .before .before .args in
-    (
+    let a = own .before .before .before .before .args in (
       told-new (a .cells .now) (a .message .now) (own .before .cells-of .result) (own .before .cells-of .ensures)
-      (fill .fill .ensures .0),
+          (fill .fill .ensures .0),
       noted-other (a .cells .now) (a .message .now) (own .before .cells-of .result) (own .before .cells-of .ensures)
-      (among own) (fill .fill .ensures .1) (c .if1 .left),
+          (among own) (fill .fill .ensures .1) (c .if1 .left),
     )
 
 pub note-spec : {M : Type 1} → statement M

@@ -1,8 +1,8 @@
 -- `log::walk` meets its contract. The loop's invariant: the places remembered, with those of the records still to come,
 -- are the places of the records that stay. Assumes nothing.
-use Prim.Native.Nat.{ℕ, _+_, _-_, _≤_, _<_}
+use Prim.Native.Nat.{ℕ, _-_, _≤_}
 use native.Mathlib.Omega.{arith}
-use mathlib.Core.Path.{_≡_, refl, sym, ap, subst, _∙_}
+use mathlib.Core.Path.{_≡_, sym, ap, subst, _∙_}
 use mathlib.Core.Bool.{true}
 use mathlib.Core.List.{List}
 use lib.ListN.{length, take, drop, set, length-replicate}
@@ -22,20 +22,29 @@ Inv-loop log cells₀ places₀ end₀ first₀ cells places end first = Going l
 abbrev μ-loop : tie.MeasureT-loop
 μ-loop log cells₀ places₀ end₀ first₀ cells places end first = end
 
--- ---- what is known in a turn
+-- ---- what is known in a turn: where it began, and the test that a record was noted behind
+
+abbrev start : tie.At-loop Inv-loop μ-loop → tie.Start Inv-loop μ-loop
+start c = c .before .before .before .before
+
+abbrev top : tie.Else1 Inv-loop μ-loop → tie.At-loop Inv-loop μ-loop
+top c = c .before .before .before .before
+
+abbrev turned : tie.After-slice-known3 Inv-loop μ-loop → tie.Else1 Inv-loop μ-loop
+turned c = c .before .before .before .before .before
 
 abbrev logOf : tie.Else1 Inv-loop μ-loop → List ℕ
-logOf c = c .before .before .before .before .before .before .before .before .args .log .now
+logOf c = start (top c) .args .log .now
 
 abbrev endOf : tie.Else1 Inv-loop μ-loop → ℕ
-endOf c = c .before .before .before .before .loop .end
+endOf c = top c .loop .end
 
 abbrev startIn : tie.Else1 Inv-loop μ-loop → ℕ
 startIn c = c .before .record-start .result
 
 invOf : (c : tie.Else1 Inv-loop μ-loop)
-    → let l = c .before .before .before .before .loop in Going (logOf c) (l .cells) (l .places) (endOf c) (l .first)
-invOf c = c .before .before .before .before .loop .inv
+    → let l = top c .loop in Going (logOf c) (l .cells) (l .places) (endOf c) (l .first)
+invOf c = top c .loop .inv
 
 went : (c : tie.Else1 Inv-loop μ-loop) → Turn (logOf c) (endOf c) (startIn c)
 went c =
@@ -55,17 +64,17 @@ bytes c i = omega (arith, c .before .before .before .before .before .before .bef
 -- and whether it is new, and the cells afterwards
 told : (c : tie.After-note Inv-loop μ-loop)
     → let at = c .before .before .before in
-    c .note .result ≡ isNew (at .before .before .before .before .loop .cells) (lastMessage (take (endOf at) (logOf at)))
+    c .note .result ≡ isNew (top at .loop .cells) (lastMessage (take (endOf at) (logOf at)))
 told c =
     let at = c .before .before .before in
-    c .note .ensures .0 ∙ ap (isNew (at .before .before .before .before .loop .cells)) (message at)
+    c .note .ensures .0 ∙ ap (isNew (top at .loop .cells)) (message at)
 
 after : (c : tie.After-note Inv-loop μ-loop)
     → let at = c .before .before .before in
-    c .note .last .0 ≡ noted (at .before .before .before .before .loop .cells) (lastMessage (take (endOf at) (logOf at)))
+    c .note .last .0 ≡ noted (top at .loop .cells) (lastMessage (take (endOf at) (logOf at)))
 after c =
     let at = c .before .before .before in
-    c .note .ensures .1 ∙ ap (noted (at .before .before .before .before .loop .cells)) (message at)
+    c .note .ensures .1 ∙ ap (noted (top at .loop .cells)) (message at)
 
 loop-holds : tie.Need-loop-holds Inv-loop μ-loop
 loop-holds c =
@@ -77,19 +86,19 @@ loop-holds c =
 slice-aggregate-record-start : tie.Need-slice-aggregate-record-start Inv-loop μ-loop
 slice-aggregate-record-start c =
     let l = c .before .before .loop in
-    sym (length-take-le (l .end) (c .before .before .before .before .before .before .args .log .now) (l .inv .within))
+    sym (length-take-le (l .end) (start (c .before .before) .args .log .now) (l .inv .within))
 
 record-start-requires : tie.Need-record-start-requires Inv-loop μ-loop
 record-start-requires c κs =
     let l = c .before .before .loop in
-    some-left (c .before .before .before .before .before .before .args .log .now) (l .end) (l .inv .within) (c .before .loop-test .taken)
+    some-left (start (c .before .before) .args .log .now) (l .end) (l .inv .within) (c .before .loop-test .taken)
 
 -- the cells and the places are as many as they were
-kept-cells : (c : tie.At-loop Inv-loop μ-loop) → length (c .loop .cells) ≡ length (c .before .before .before .before .args .cells .now)
-kept-cells c = c .loop .inv .knows .size ∙ sym (ap length (c .before .before .before .before .pre .1 .0) ∙ length-replicate {A = ℕ} cellsMost 0)
+kept-cells : (c : tie.At-loop Inv-loop μ-loop) → length (c .loop .cells) ≡ length (start c .args .cells .now)
+kept-cells c = c .loop .inv .knows .size ∙ sym (ap length (start c .pre .1 .0) ∙ length-replicate {A = ℕ} cellsMost 0)
 
-kept-places : (c : tie.At-loop Inv-loop μ-loop) → length (c .loop .places) ≡ length (c .before .before .before .before .args .places .now)
-kept-places c = c .loop .inv .many ∙ sym (c .before .before .before .before .pre .1 .1)
+kept-places : (c : tie.At-loop Inv-loop μ-loop) → length (c .loop .places) ≡ length (start c .args .places .now)
+kept-places c = c .loop .inv .many ∙ sym (start c .pre .1 .1)
 
 same-length : tie.Need-same-length Inv-loop μ-loop
 same-length c = kept-cells (c .before .before .before .before)
@@ -101,7 +110,7 @@ returns : tie.Need-returns Inv-loop μ-loop
 returns c =
     let at = c .before .before .before in
     let l = at .before .loop in
-    let log = at .before .before .before .before .before .args .log .now in
+    let log = start (at .before) .args .log .now in
     let told = c .before .record-start .ensures in
     going-none log (l .cells) (l .places) (l .end) (l .first) (l .inv)
     (turn-stops log (l .end) (at .loop-test .taken) (l .inv .within) told (c .if1 .taken))
@@ -120,18 +129,17 @@ part-note-end c = let less = went (c .before) .less in let inside = invOf (c .be
 
 note-requires : tie.Need-note-requires Inv-loop μ-loop
 note-requires c κs =
-    let at = c .before .before in
-    (
+    let at = c .before .before in (
       invOf at .knows .size,
       subst (λ (m : List ℕ). isStatus m ≡ true) (sym (message at)) (went at .step .ended .kept),
     )
 
 -- a record that stays has a place left
-first-left : (c : tie.Then2 Inv-loop μ-loop) → 1 ≤ c .before .before .before .before .before .before .before .before .before .before .loop .first
+first-left : (c : tie.Then2 Inv-loop μ-loop) → 1 ≤ top (turned (c .before)) .loop .first
 first-left c =
     let note = c .before .before .before in
-    let at = note .before .before .before in
-    let l = at .before .before .before .before .loop in
+    let at = turned (c .before) in
+    let l = top at .loop in
     one-left (logOf at) (l .cells) (l .places) (endOf at) (startIn at) (l .first) (bytes at) (invOf at) (went at)
     (message at) (sym (told note) ∙ c .if2 .taken)
 
@@ -140,41 +148,46 @@ sub-first c = first-left c
 
 cast-places : tie.Need-cast-places Inv-loop μ-loop
 cast-places c =
-    let inside = c .before .before .before .before .before .before .before .before .before .before .loop .inv .within in
-    let few = c .before .before .before .before .before .before .before .before .before .before .before .before .before .before .pre .0 in
+    let at = top (turned (c .before)) in
+    let inside = at .loop .inv .within in
+    let few = start at .pre .0 in
     omega arith
 
 mul-places : tie.Need-mul-places Inv-loop μ-loop
 mul-places c =
-    let g = c .before .before .before .before .before .before .before .before .before .before .loop .inv in
-    let top = g .top in
+    let g = top (turned (c .before)) .loop .inv in
+    let high = g .top in
     let many = g .many in
     omega arith
 
 slice-write-places : tie.Need-slice-write-places Inv-loop μ-loop
-slice-write-places c = let some-left = first-left c in let top = c .before .before .before .before .before .before .before .before .before .before .loop .inv .top in omega arith
+slice-write-places c =
+    let low = first-left c in
+    let high = top (turned (c .before)) .loop .inv .top in
+    omega arith
 
 loop-less : tie.Need-loop-less Inv-loop μ-loop
-loop-less c = went (c .before .before .before .before .before .before) .less
+loop-less c = went (turned (c .before)) .less
 
 loop-again : tie.Need-loop-again Inv-loop μ-loop
 loop-again c =
     let note = c .before .before .before in
-    let at = note .before .before .before in
-    let l = at .before .before .before .before .loop in
-    subst (λ (k : List ℕ). Going (logOf at) k (set (l .places) (l .first - 1) (endOf at - 1)) (startIn at) (l .first - 1))
+    let at = turned (c .before) in
+    let l = top at .loop in
+    let places = set (l .places) (l .first - 1) (endOf at - 1) in
+    subst (λ (k : List ℕ). Going (logOf at) k places (startIn at) (l .first - 1))
     (sym (after note))
     (going-kept (logOf at) (l .cells) (l .places) (endOf at) (startIn at) (l .first) (bytes at) (invOf at) (went at)
     (message at) (sym (told note) ∙ c .if2 .taken))
 
 loop-less-2 : tie.Need-loop-less-2 Inv-loop μ-loop
-loop-less-2 c = went (c .before .before .before .before .before .before) .less
+loop-less-2 c = went (turned (c .before)) .less
 
 loop-again-2 : tie.Need-loop-again-2 Inv-loop μ-loop
 loop-again-2 c =
     let note = c .before .before .before in
-    let at = note .before .before .before in
-    let l = at .before .before .before .before .loop in
+    let at = turned (c .before) in
+    let l = top at .loop in
     subst (λ (k : List ℕ). Going (logOf at) k (l .places) (startIn at) (l .first)) (sym (after note))
     (going-on (logOf at) (l .cells) (l .places) (endOf at) (startIn at) (l .first) (bytes at) (invOf at) (went at)
     (message at) (sym (told note) ∙ c .if2 .left))
@@ -188,7 +201,8 @@ same-length-4 c = kept-places (c .before)
 returns-2 : tie.Need-returns-2 Inv-loop μ-loop
 returns-2 c =
     let l = c .before .loop in
-    going-all (c .before .before .before .before .before .args .log .now) (l .cells) (l .places) (l .end) (l .first) (l .inv) (omega (arith, c .loop-test .left))
+    going-all (start (c .before) .args .log .now) (l .cells) (l .places) (l .end) (l .first) (l .inv)
+    (omega (arith, c .loop-test .left))
 
 pub walk-spec : {M : Type 1} → statement M
 walk-spec =
