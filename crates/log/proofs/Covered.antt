@@ -139,10 +139,10 @@ pair-told i p bits q b h = eqb-true q i (sym (or-false (eqb q i)) ∙ h)
 -- ---- whose a cell is
 
 -- one of some cells
-abbrev InRun : Cells → ℕ → Type 0
+abbrev pub InRun : Cells → ℕ → Type 0
 InRun own c = (own .first ≤ c) × (c < own .first + own .count)
 
-to-run : (c : ℕ) {own other : Cells} → own ≡ other → InRun own c → InRun other c
+pub to-run : (c : ℕ) {own other : Cells} → own ≡ other → InRun own c → InRun other c
 to-run c e r = subst (λ (o : Cells). InRun o c) e r
 
 module _ (m : List ℕ) where
@@ -154,7 +154,7 @@ module _ (m : List ℕ) where
   Owns c = InRun (cellsOf m) c ⊎ ((number ≡ 0x04) × (c ≡ 256 + byte 2 m))
 
   -- which cells those are, its number tells
-  owner : (P : Type 0) (c : ℕ) → isStatus m ≡ true → Owns c
+  pub owner : (P : Type 0) (c : ℕ) → isStatus m ≡ true → Owns c
       → (number ≡ 0x04 → c ≡ byte 2 m → P)
       → (number ≡ 0x04 → c ≡ 256 + byte 2 m → P)
       → (number ≡ 0x05 → byte 2 m ≤ 240 → 256 + byte 2 m ≤ c → c < 256 + byte 2 m + 16 → P)

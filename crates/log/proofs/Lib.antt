@@ -16,6 +16,7 @@ pub mod Covered
 pub mod Knowing
 pub mod Going
 pub mod Smaller
+pub mod Goes
 pub mod Fewer
 pub mod Always
 pub mod Unique
