@@ -34,6 +34,7 @@
  *   change place byte               nothing                puts the byte into the kept log
  *   keep   [log] used message       written, beside, changed
  *   newest [log] used zone          found, beside, changed
+ *   make_room [log] used            written, beside, changed
  *
  * With the flag KEPT a call has no operand in brackets: it takes the kept reader, table, slots or log, and
  * keeps the next reader, the table, the slots and the log as they come back. With the flag NULLS an empty
@@ -42,7 +43,7 @@
 #include "nx584.h"
 
 enum { FRESH = 1, STEP, READ, WRITE, REPLY, APPLY, VIEW, HEAR, LEND_TABLE, SHOW, VERSION, ZONE, PARTITION, SYSTEM };
-enum { LEND_SLOTS = SYSTEM + 1, TAKE, TICK, TOLD, FRESH_LENIENT, LEND_LOG, CHANGE, KEEP, NEWEST };
+enum { LEND_SLOTS = SYSTEM + 1, TAKE, TICK, TOLD, FRESH_LENIENT, LEND_LOG, CHANGE, KEEP, NEWEST, MAKE_ROOM };
 enum { FUNCTION = 0x1F };
 enum { NULLS = 0x40, KEPT = 0x80 };
 enum { LONGEST_BUFFER = 1 << 20, BESIDE = 16, MARK = 0xA5 };
@@ -208,6 +209,12 @@ static void give_buffer(const buffer *from)
     give(from->room + from->begin, from->length);
 }
 
+static void give_written(nx584_written w)
+{
+    give_number(w.number, 1);
+    give_number(w.length, 8);
+}
+
 static nx584_reader take_reader(void)
 {
     nx584_reader r;
@@ -371,10 +378,8 @@ static void call_write(void)
     uint8_t framing = (uint8_t)take_number(1);
     take_buffer(&lent);
     size_t place = (size_t)take_number(8);
-    nx584_written w =
-        nx584_write(pointer(&message), message.length, framing, pointer(&lent), lent.length, place);
-    give_number(w.number, 1);
-    give_number(w.length, 8);
+    give_written(
+        nx584_write(pointer(&message), message.length, framing, pointer(&lent), lent.length, place));
     give_beside(&lent);
     give_buffer(&lent);
 }
@@ -492,10 +497,8 @@ static void call_keep(void)
     log_bytes *log = log_lent();
     size_t used = (size_t)take_number(8);
     take_buffer(&message);
-    nx584_written w =
-        nx584_keep(pointer(&log->now), log->now.length, used, pointer(&message), message.length);
-    give_number(w.number, 1);
-    give_number(w.length, 8);
+    give_written(
+        nx584_keep(pointer(&log->now), log->now.length, used, pointer(&message), message.length));
     give_changed(log);
 }
 
@@ -507,6 +510,14 @@ static void call_newest(void)
     give_number(f.number, 1);
     give_number(f.at, 8);
     give_number(f.length, 8);
+    give_changed(log);
+}
+
+static void call_make_room(void)
+{
+    log_bytes *log = log_lent();
+    size_t used = (size_t)take_number(8);
+    give_written(nx584_make_room(pointer(&log->now), log->now.length, used));
     give_changed(log);
 }
 
@@ -538,6 +549,7 @@ int main(void)
         case CHANGE: call_change(); break;
         case KEEP: call_keep(); break;
         case NEWEST: call_newest(); break;
+        case MAKE_ROOM: call_make_room(); break;
         default: leave(2);
         }
     }

@@ -5,8 +5,8 @@ usage: tests/gateway.py SEED -- HOST [WORD...]
 
 The gateway answers at once, late, after some sendings, with 1Eh, or not at all, talks of other things meanwhile, and cuts its
 bytes anywhere. Every command ends in the way that it chose. One of newer firmware sends long messages until they are rejected,
-one on a noisy cable sends a frame again. What was last heard about a zone is asked, and is what the gateway last said of it.
-Ends 'N passed, M failed'."""
+one on a noisy cable sends a frame again. What was last heard about a zone is asked, and is what the gateway last said of it, also
+when more was said than a log holds. Ends 'N passed, M failed'."""
 import os
 import re
 import sys
@@ -177,7 +177,7 @@ def way(line_number, message, plan):
     return f"command {line_number} ({message[0] & 0x3F:02X}) {word}"
 
 
-# ---- what a host that keeps a log says, from document 01 and document 02, No. 6
+# ---- what a host that keeps a log says, from document 01 and document 02, No. 6 and 7
 
 LOG_MOST = 65536
 FLAGS = ("faulted", "bypass", "trouble", "alarm memory")
@@ -199,17 +199,112 @@ def short_flags(message, zone):
     return bool(first & 0x01) | bool(first & 0x18) << 1 | bool(first & 0x66) << 2 | (second & 1) << 3
 
 
-def answer(kept, zone, when=""):
+def answer(kept, zone):
     """What the host says of a zone, which it counts from 1."""
     newest = next((message for message in reversed(kept) if is_about(message, zone)), None)
     if newest is None:
-        return f"zone {zone + 1} was not heard{when}"
+        return f"zone {zone + 1} was not heard"
     names = [name for k, name in enumerate(FLAGS) if short_flags(newest, zone) >> k & 1]
-    return f"zone {zone + 1} was last heard{when} in {newest.hex(' ').upper()}: {' '.join(names) or 'in order'}"
+    return f"zone {zone + 1} was last heard in {newest.hex(' ').upper()}: {' '.join(names) or 'in order'}"
 
 
 def records(kept):
     return b"".join(message + bytes([len(message)]) for message in kept)
+
+
+def messages_of(log):
+    """By the trailers, from the end of a log to its beginning."""
+    messages = []
+    while log:
+        at = len(log) - 1 - log[-1]
+        messages.append(log[at:-1])
+        log = log[:at]
+    return messages[::-1]
+
+
+def put(message):
+    """What a message puts into a table: values, by the place of a byte and the bits of it, all eight or one of a mark."""
+    number, second = message[0] & 0x3F, message[1]
+    if number == 4:
+        place = 8 * second
+        stored, marks = dict(enumerate([*message[2:], short_flags(message, second)], place + 1)), [(place, 1), (place, 2)]
+    elif number == 5:
+        zones = range(second, second + 16)
+        stored, marks = {8 * zone + 7: short_flags(message, zone) for zone in zones}, [(8 * zone, 1) for zone in zones]
+    elif number == 6:
+        place = 2048 + 9 * second
+        stored, marks = dict(enumerate(message[2:], place + 1)), [(place, 2)]
+    elif number == 7:
+        partitions = range(2048, 2120, 9)
+        stored, marks = {place + 8: byte for place, byte in zip(partitions, message[1:])}, [(place, 1) for place in partitions]
+    else:
+        stored, marks = dict(enumerate(message[1:], 2121)), [(2120, 1)]
+    return {**{(place, 255): byte for place, byte in stored.items()}, **{(place, bit): bit for place, bit in marks}}
+
+
+def table_of(messages):
+    table = bytearray(2132)
+    for message in messages:
+        for (place, bits), value in put(message).items():
+            table[place] = table[place] & ~bits | value
+    return bytes(table)
+
+
+def shortened(kept):
+    """Without those of which every byte and every mark bit is put there by later ones together."""
+    stay, later = [], set()
+    for message in reversed(kept):
+        own = put(message).keys()
+        if not own <= later:
+            stay.append(message)
+        later |= own
+    return stay[::-1]
+
+
+def log_of(heard):
+    """The messages of a log that took all these, and what was won each time that one had no room."""
+    kept, used, won = [], 0, []
+    for message in heard:
+        if used + len(message) + 1 > LOG_MOST:
+            kept = shortened(kept)
+            won.append(used - len(records(kept)))
+            used -= won[-1]
+        kept.append(message)
+        used += len(message) + 1
+    return kept, won
+
+
+# A card of No. 7: what goes when room is made for the first time (1), what goes at the second (2), and what stays (0).
+FIRST_ROOM = [
+    (1, "04 09 01 10 00 00 01 00"),        # there is a later 04h of its zone
+    (1, "05 20 21 43 65 87 A9 CB ED 0F"),  # zone 20h has a later 04h, and the other fifteen a later 05h
+    (2, "05 40 01 00 00 00 00 00 00 00"),  # nothing is later of zone 40h; the second time another 05h has that
+    (0, "84 30 FF 01 02 03 18 00"),        # a 05h covers its zone, which is not enough
+    (1, "06 03 01 02 03 04 05 06 07"),     # there is a later 06h of its partition
+    (1, "07 11 22 33 44 55 66 77 88"),     # there is a later 07h
+    (2, "86 02 11 12 13 14 15 16 17"),     # a 07h is later, which is not enough; the second time a 06h
+    (2, "84 09 01 10 00 00 08 01"),        # the 04h of its zone for which room is made is kept when it was made
+    (0, "04 20 01 10 00 00 02 00"),        # nothing is later of its zone
+    (0, "85 21 00 00 00 00 00 00 00 80"),  # nor of its sixteen
+    (0, "05 41 10 00 00 00 00 00 00 11"),  # a 05h has all but two of its zones, the second time
+    (2, "06 03 21 22 23 24 25 26 27"),     # there is a later 06h of its partition, the second time
+    (0, "87 01 02 03 04 05 06 07 08"),     # a 06h of each partition is later the second time, which is not enough
+]
+SECOND_ROOM = [(0, f"06 0{partition} 00 00 00 00 {partition}1 00 00") for partition in range(8)] + [
+    (0, "85 3F 00 00 00 00 00 00 00 00"),  # nothing is later of its zones
+]
+
+
+def filling(room, goes, stays):
+    """Of a card: as many 04h of the last zone and 08h as fill the room, one 04h at least. The last of each stays longer."""
+    zones = next(count for count in range(1, 14) if (room - 9 * count) % 13 == 0)
+    zone, system = "04 FF 00 00 00 00 04 00", "08 01" + 10 * "00"
+    return [(goes, zone)] * (zones - 1) + [(stays, zone)] + [(goes, system)] * ((room - 9 * zones) // 13 - 1) + [(stays, system)]
+
+
+def of_card(rows, rooms_made=0):
+    """The messages of a card that are there when room was made so often."""
+    return [bytes.fromhex(text) for goes, text in rows if goes == 0 or goes > rooms_made]
 
 
 def bytes_in(path):
@@ -225,6 +320,11 @@ def told(said):
     return re.findall(r"^host: ((?:command|zone) .*)\n", said, re.MULTILINE)
 
 
+def told_won(said):
+    """What was won each time that room was made."""
+    return [int(count) for count in re.findall(r"^host: made room in the log: (\d+) bytes\n", said, re.MULTILINE)]
+
+
 def spoiled(chance, part):
     """A frame that is broken off, or has a wrong bit: no good message comes of it."""
     at = chance.randrange(len(part))
@@ -232,7 +332,7 @@ def spoiled(chance, part):
 
 
 class Station:
-    """A host that is asked on a descriptor, and the messages that it should have kept."""
+    """A host that is asked on a descriptor, and the messages that it should have kept, whether or not they are still there."""
 
     def __init__(self, trials, home, framing):
         self.framing, self.log_in, self.kept = framing, os.path.join(home, "log"), []
@@ -242,15 +342,22 @@ class Station:
         self.host = trials.started(home, self.line, FRAMINGS[framing] + words, (given,))
         os.close(given)
 
+    def waits(self, what):
+        return until(lambda: what() or self.host.process.poll() is not None) and what()
+
     def hear(self, pieces):
         """Bytes, and then a request: when it was rejected, all before it was heard."""
         rejected, request = frame(self.framing, b"\x1f"), frame(self.framing, b"\x21")
         self.line.heard.clear()
         for piece in [*pieces, request]:
             self.line.send(piece)
-        return until(lambda: self.line.hear() or rejected in self.line.heard)
+        return self.waits(lambda: self.line.hear() or rejected in self.line.heard)
 
     def keep(self, *messages):
+        """So many at a time as a line takes though nobody reads it: of a host that hangs or is gone this comes back."""
+        return all(self.keep_some(messages[at:at + 200]) for at in range(0, len(messages), 200))
+
+    def keep_some(self, messages):
         self.kept += messages
         return self.hear(frame(self.framing, message) for message in messages)
 
@@ -258,16 +365,24 @@ class Station:
         """What it says to these lines."""
         before = len(told(self.host.said()))
         os.write(self.far, "".join(f"{line}\n" for line in lines_asked).encode())
-        until(lambda: len(told(self.host.said())) >= before + len(lines_asked))
+        self.waits(lambda: len(told(self.host.said())) >= before + len(lines_asked))
         return told(self.host.said())[before:]
 
     def says(self, *zones):
         """Whether it says of zones, counted from 0, what it should."""
         return self.ask(*(f"zone {zone + 1}" for zone in zones)) == [answer(self.kept, zone) for zone in zones]
 
+    def room(self):
+        """How many bytes its log should have left."""
+        return LOG_MOST - len(records(log_of(self.kept)[0]))
+
+    def won(self):
+        return told_won(self.host.said())
+
     def has_written(self):
-        """Whether the log's file is its records."""
-        return bytes_in(self.log_in) == records(self.kept)
+        """Whether the log's file is its records, and it has made room when there was none, and not else."""
+        kept, won = log_of(self.kept)
+        return bytes_in(self.log_in) == records(kept) and self.won() == won
 
     def close(self):
         os.close(self.far)
@@ -544,31 +659,63 @@ class Commands(Trials):
                   station.host.end() == 0)
         station.close()
 
-    def full_log(self, home):
-        """On standard input. The first message that has no room is the last word, though a shorter one would have some."""
-        system, before, after = b"\x08" + bytes(11), bytes.fromhex("0409000000000100"), bytes.fromhex("0409000000000800")
-        kept = [before, before] + [system] * ((LOG_MOST - 18) // 13)
-        said = kept + [system, after, system, b"\x21"]
-        log_in, replies_in = os.path.join(home, "full"), os.path.join(home, "replies")
-        (given, far), (stdin, line) = os.pipe(), os.pipe()
-        with open(replies_in, "wb") as replies:
-            host = Host(home, self.command, ["--commands", f"/dev/fd/{given}", "--log", log_in], stdin, replies, (given,))
-        os.close(given)
-        os.close(stdin)
-        with open(line, "wb") as file:
-            file.write(b"".join(frame("binary", message) for message in said))
-            file.flush()
-            heard = until(lambda: os.path.getsize(replies_in) > 0)
-            os.write(far, b"zone 10\nzone 11\n")
-            answered = until(lambda: len(told(host.said())) >= 2)
-        status = host.process.wait(PATIENCE)
-        os.close(far)
-        room, when = LOG_MOST - len(records(kept)), " before the log was full"
-        self.note(f"a log with room for {room} bytes takes no 13 more, and then nothing: told once", heard, status == 0, 9 <= room < 13,
-                  host.said().count("host: the log is full; nothing more is kept\n") == 1)
-        self.note(f"its file is the {len(kept)} records before that", bytes_in(log_in) == records(kept))
-        self.note("and what it says of a zone is said to be of before that", answered,
-                  told(host.said()) == [answer(kept, zone, when) for zone in (9, 10)])
+    def room_by_card(self, home):
+        """A log that is full to the last byte, and later one with room for every record but the longest."""
+        station, zones = Station(self, home, "binary"), range(256)
+        card = FIRST_ROOM + filling(LOG_MOST - 11 - len(records(of_card(FIRST_ROOM))), 1, 2) + [(0, "05 F0 00 00 00 00 00 00 00 20")]
+        heard = station.keep(*of_card(card)) and station.hear(frame("binary", message) for message in NOT_KEPT)
+        self.note(f"a log of {len(records(station.kept))} bytes is full; what no log keeps needs no room", self.hearing, heard,
+                  station.room() == 0, station.won() == [], station.says(*zones))
+        stay, following = len(records(of_card(card, 1))), [(0, "04 09 01 10 00 00 66 00")] + SECOND_ROOM
+        heard = station.keep(*of_card(following[:1]))
+        self.note(f"one more: room is made, and {stay} bytes stay; all zones are answered by all that was said", heard,
+                  station.won() == [LOG_MOST - stay], station.says(*zones))
+        following += filling(LOG_MOST - 12 - stay - len(records(of_card(following))), 2, 0)
+        heard = station.keep(*of_card(following[1:]))
+        self.note("no room is made for what fits", heard, len(station.won()) == 1, station.room() == 12)
+        stay, last = of_card(card + following, 2), b"\x88" + bytes(11)
+        heard = station.keep(last)
+        self.note("and again room, for 13 bytes where 12 are left", heard, station.won()[1:] == [LOG_MOST - 12 - len(records(stay))],
+                  station.says(*zones))
+        self.note(f"its file is the {len(stay)} records that the card leaves and the last one, as document 02 has it",
+                  station.host.end() == 0, bytes_in(station.log_in) == records(stay + [last]), station.has_written())
+        station.close()
+
+    def up_to_full(self, room):
+        """Messages of all kinds, about some of the zones, that leave less than the 13 bytes of an 08h."""
+        messages = []
+        while room >= 13:
+            message = lines.message(self.chance)
+            if message[0] & 0x3F > 5 or message[1] < 230:
+                messages.append(message)
+                room -= len(message) + 1
+        return messages
+
+    def is_made_alike(self, station):
+        """Fills a log, and makes room by a message that is about no zone: whether all zones are answered before it and behind it alike."""
+        zones, often = [f"zone {zone}" for zone in range(1, 257)], len(station.won())
+        if not station.keep(*self.up_to_full(station.room())) or len(station.won()) != often:
+            return False
+        before = station.ask(*zones)
+        behind = station.keep(b"\x88" + bytes(11)) and station.ask(*zones)
+        not_heard = [said for said in before if "not heard" in said]
+        return (len(station.won()) == often + 1 and before == behind == [answer(station.kept, zone) for zone in range(256)]
+                and 0 < len(not_heard) < 256)
+
+    def made_room(self, home, framing, times):
+        station = Station(self, home, framing)
+        alike = all(self.is_made_alike(station) for _ in range(times))
+        kept = alike and station.keep(*(lines.message(self.chance) for _ in range(40)))
+        ended, count, table, log = station.host.end(), len(station.kept), bytes_in(station.host.table_in), bytes_in(station.log_in)
+        self.note(f"{framing}: {count} messages, rooms made: {times}; of all zones the same answers before and behind it",
+                  self.hearing, alike, kept)
+        written = messages_of(log)
+        self.note(f"{framing}: the log's file is what document 02 leaves of them, byte for byte: {len(written)} records", ended == 0,
+                  station.has_written(), {message[0] & 0x3F for message in written[:-41]} == {4, 5, 6, 7, 8})
+        station.close()
+        status, rebuilt, _, _ = self.uncut(home, b"".join(frame(framing, message) for message in written), FRAMINGS[framing])
+        self.note(f"{framing}: the table is that of the log's file, and of all that was said", status == 0, table == rebuilt,
+                  table == table_of(station.kept), len(written) < count)
 
     def no_file(self, home):
         host = Host(home, self.command, ["--commands", os.path.join(home, "none")])
@@ -590,7 +737,9 @@ class Commands(Trials):
         for framing in FRAMINGS:
             self.made_log(home, framing)
         self.asked_while_eight_wait(home)
-        self.full_log(home)
+        self.room_by_card(home)
+        self.made_room(home, "binary", 3)
+        self.made_room(home, "ascii", 1)
         self.no_file(home)
 
 

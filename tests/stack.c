@@ -49,6 +49,7 @@ static void call_tick(void) { sink = nx584_tick(slots, NX584_SLOTS).length; }
 static void call_told(void) { sink = nx584_told(slots, NX584_SLOTS, message, message_count).length; }
 static void call_keep(void) { sink = nx584_keep(records, sizeof records, records_used, message, message_count).length; }
 static void call_newest(void) { sink = nx584_newest(records, sizeof records, records_used, bytes[0]).length; }
+static void call_make_room(void) { sink = nx584_make_room(records, sizeof records, records_used).length; }
 
 static const struct {
     const char *name;
@@ -57,7 +58,7 @@ static const struct {
              {"nx584_step", call_step}, {"nx584_read", call_read}, {"nx584_write", call_write}, {"nx584_reply", call_reply},
              {"nx584_apply", call_apply}, {"nx584_view", call_view}, {"nx584_zone", call_zone}, {"nx584_partition", call_partition},
              {"nx584_system", call_system}, {"nx584_hear", call_hear}, {"nx584_take", call_take}, {"nx584_tick", call_tick},
-             {"nx584_told", call_told}, {"nx584_keep", call_keep}, {"nx584_newest", call_newest}};
+             {"nx584_told", call_told}, {"nx584_keep", call_keep}, {"nx584_newest", call_newest}, {"nx584_make_room", call_make_room}};
 
 /* ---- inputs: good messages' frames and long ones, and any bytes, an escape that was not needed at times among them; read by a fresh reader of either rule
  * or by one in the midst of them; slots with any number of commands that wait; a log of any length up to a full one */
@@ -71,25 +72,44 @@ static void make_slots(void)
         nx584_take(slots, NX584_SLOTS, bypass, sizeof bypass);
 }
 
-/* Records of each kept number, over and over. */
+/* Records of each kept number, over and over, about other zones and partitions each time; and such that fill up all the bytes a log may use. */
 static const uint8_t each[] = {4, 9, 0, 0, 0, 0, 0, 0, 8, 5, 16, 0, 0, 0, 0, 0, 0, 0, 0, 10, 6, 7, 0, 0, 0, 0, 0, 0, 0, 9,
                                7, 0, 0, 0, 0, 0, 0, 0, 0, 9, 8, 0, 0, 0, 0, 0, 0, 0, 0, 0, 0, 0, 12};
+static const uint8_t last[] = {4, 9, 0, 0, 0, 0, 0, 0, 8, 4, 9, 0, 0, 0, 0, 0, 0, 8, 6, 7, 0, 0, 0, 0, 0, 0, 0, 9};
+enum { ROUNDS = NX584_LOG_MOST / sizeof each, ZONE_AT = 1, OFFSET_AT = 10, PARTITION_AT = 21, OFFSETS = 241 };
+typedef char fills_up[ROUNDS * sizeof each + sizeof last == NX584_LOG_MOST ? 1 : -1];
+
+static uint8_t laid(size_t at)
+{
+    size_t round = at / sizeof each;
+    if (round == ROUNDS)
+        return last[at % sizeof each];
+    switch (at % sizeof each) {
+    case ZONE_AT: return (uint8_t)round;
+    case OFFSET_AT: return (uint8_t)(round % OFFSETS);
+    case PARTITION_AT: return round % NX584_PARTITIONS;
+    default: return each[at % sizeof each];
+    }
+}
 
 static void lay_records(size_t from, size_t end)
 {
     for (; from < end && from < sizeof records; from++)
-        records[from] = each[from % sizeof each];
+        records[from] = laid(from);
 }
 
-/* What the call before kept is laid over; most logs are about full, and a few end within a record. */
+/* What the call before kept, or moved, is laid over. Most logs are full or about full, some are small, and a few end within a record. */
 static void make_log(void)
 {
     static const uint8_t ends[] = {0, 9, 20, 30, 40};
-    size_t most = sizeof records / sizeof each - 1;
+    lay_records(0, NX584_LOG_ENOUGH);
     lay_records(records_used, records_used + sizeof each);
-    records_used = (chance() % 4 ? most : chance() * most / 256) * sizeof each + ends[chance() % sizeof ends];
+    size_t rounds = chance() % 4 ? ROUNDS - 1 : chance() % 2 ? chance() % 4 : chance() * (ROUNDS - 1) / 256;
+    records_used = rounds * sizeof each + ends[chance() % sizeof ends];
     if (chance() % 8 == 0)
         records_used += chance() % 128;
+    if (chance() % 4 == 0)
+        records_used = sizeof records;
 }
 
 static void make_bytes(void)

@@ -112,6 +112,15 @@ never-more s =
     made-has (λ u. u .used ≤ s .used) s (λ r. le-refl (s .used))
     (λ a. rw (made-is s a) (shorter s a))
 
+-- and no more is won than was used: what is taken from the used length is in it
+pub won-less : (s : Station) → wonOf (s .buffer) (s .used) .length ≤ s .used
+unfolding wonOf
+won-less s = go (eqb (logRefusal (s .buffer) (s .used)) 0)
+  where
+    go : (t : Bool) → cond t (s .used - length (smaller (logIn s))) 0 ≤ s .used
+    go true = omega arith
+    go false = omega arith
+
 -- the buffer's length stays
 pub made-length : (s : Station) → length (making s .buffer) ≡ length (s .buffer)
 made-length s =

@@ -13,7 +13,7 @@ use Rattle.standard.specs.Messages.{among, numberOf, checkOf, messageTests, sta
 use Rattle.standard.proofs.Messages.{neither-true, or-true, check-then}
 use Rattle.standard.proofs.Refusals.{first-in}
 use Rattle.standard.proofs.Status.{status-is}
-use Rattle.log.specs.Log.{logMost, recordOf, sound, beyond, logRefusal, keepTests, keepRefusal}
+use Rattle.log.specs.Log.{logMost, recordOf, sound, beyond, logTests, logRefusal, keepTests, keepRefusal}
 
 -- a place that is not beyond
 pub record Inside (log : List ℕ) (end : ℕ) : Type 0 where
@@ -66,6 +66,11 @@ asked log used h = go (beyond log used) refl (sound (take used log)) refl
 
 pub asked-none : (log : List ℕ) (used : ℕ) → Asked log used → logRefusal log used ≡ 0
 asked-none log used a = log-else log used (inside-not log used (a .fits)) ∙ rw (a .sounds) refl
+
+-- whatever is handed in, the log's own are these
+pub log-numbers : (log : List ℕ) (used : ℕ) → among (logRefusal log used) (0 ∷ 16 ∷ 17 ∷ []) ≡ true
+unfolding logRefusal
+log-numbers log used = first-in (λ n. among n (0 ∷ 16 ∷ 17 ∷ [])) (logTests log used) refl
 
 -- ---- those of `keep`
 

@@ -12,6 +12,8 @@ use Rattle.log.proofs.newest.Kinds as newest-kinds
 use Rattle.log.proofs.newest.Reads as newest
 use Rattle.log.proofs.keep.Kinds as keep-kinds
 use Rattle.log.proofs.keep.Reads as keep
+use Rattle.log.proofs.make_room.Kinds as make-room-kinds
+use Rattle.log.proofs.make_room.Reads as make-room
 
 pub find-unique : (κs : Lfts 1) (a : Dens κs find-kinds.ps) (e : AtExit (endedOf 1 find-kinds.ps find-kinds.r) κs)
     (x y : resT find-kinds.r κs .Denot) → find.Post κs a x e → find.Post κs a y e → x ≡ y
@@ -29,3 +31,9 @@ pub keep-unique : (κs : Lfts 2) (a : Dens κs keep-kinds.ps) (e e′ : AtExit (
     (x y : resT keep-kinds.r κs .Denot) → keep.Post κs a x e → keep.Post κs a y e′ → (x ≡ y) ×
     (now (e .0) ≡ now (e′ .0))
 keep-unique κs a e e′ x y p q = (p .says ∙ sym (q .says), p .leaves ∙ sym (q .leaves))
+
+pub make-room-unique : (κs : Lfts 1) (a : Dens κs make-room-kinds.ps)
+    (e e′ : AtExit (endedOf 1 make-room-kinds.ps make-room-kinds.r) κs)
+    (x y : resT make-room-kinds.r κs .Denot) → make-room.Post κs a x e → make-room.Post κs a y e′
+    → (x ≡ y) × (now (e .0) ≡ now (e′ .0))
+make-room-unique κs a e e′ x y p q = (p .says ∙ sym (q .says), p .leaves ∙ sym (q .leaves))

@@ -49,6 +49,8 @@ use Rattle.nx584.proofs.nx584_tick as tick
 use Rattle.nx584.proofs.nx584_told as told
 use Rattle.nx584.proofs.nx584_keep.Kinds as keep-kinds
 use Rattle.nx584.proofs.nx584_keep.Reads as keep
+use Rattle.nx584.proofs.nx584_make_room.Kinds as make-room-kinds
+use Rattle.nx584.proofs.nx584_make_room.Reads as make-room
 use Rattle.nx584.proofs.nx584_newest.Kinds as newest-kinds
 use Rattle.nx584.proofs.nx584_newest.Reads as newest
 use Rattle.nx584.proofs.nx584_version.Kinds as version-kinds
@@ -155,6 +157,12 @@ pub nx584-keep-unique : (κs : Lfts 2) (a : Dens κs keep-kinds.ps)
     (x y : resT keep-kinds.r κs .Denot) → keep.Post κs a x e → keep.Post κs a y e′
     → (x ≡ y) × (now (e .0) ≡ now (e′ .0))
 nx584-keep-unique κs a e e′ x y p q = (p .says ∙ sym (q .says), p .leaves ∙ sym (q .leaves))
+
+pub nx584-make-room-unique : (κs : Lfts 1) (a : Dens κs make-room-kinds.ps)
+    (e e′ : AtExit (endedOf 1 make-room-kinds.ps make-room-kinds.r) κs)
+    (x y : resT make-room-kinds.r κs .Denot) → make-room.Post κs a x e → make-room.Post κs a y e′
+    → (x ≡ y) × (now (e .0) ≡ now (e′ .0))
+nx584-make-room-unique κs a e e′ x y p q = (p .says ∙ sym (q .says), p .leaves ∙ sym (q .leaves))
 
 pub nx584-newest-unique : (κs : Lfts 1) (a : Dens κs newest-kinds.ps)
     (e : AtExit (endedOf 1 newest-kinds.ps newest-kinds.r) κs)

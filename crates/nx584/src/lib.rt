@@ -27,13 +27,13 @@ ghost use Rattle.reader.specs.Step.{framingOf};
 ghost use Rattle.commands.specs.Commands.{endedNumber, answerOf, after, takeOf, tickOf, toldOf};
 ghost use Rattle.log.specs.Log.{foundOf};
 ghost use Rattle.nx584.specs.Line.{cAnswer};
-ghost use Rattle.nx584.specs.Station.{cFound, CKeeps};
+ghost use Rattle.nx584.specs.Station.{cFound, CKeeps, CMakesRoom};
 ghost use Rattle.nx584.specs.Records.{cZone, cPartition, cSystem};
 ghost use Rattle.nx584.specs.Boundary.{framingFor, escapesFor, escapesNumber, framingNumber, modeNumber, digitNumber, pendingFor, modeFor, cFresh, modeOk, numbersSaid, padded, cRefused, cReading, withReply, cHearing, cRead, CHears, CWrote, cGroup, cOverview};
 ghost use Rattle.nx584.specs.Scan.{scannedAs, readerIn, tookIn, CScans};
 
 // NX584_VERSION: of the header that this library goes with.
-const VERSION: u32 = 5;
+const VERSION: u32 = 6;
 
 // NX584_LONGEST: the most bytes of a message that is read.
 const LONGEST: usize = standard::LONGEST;
@@ -716,7 +716,7 @@ pub extern "C" fn nx584_told(slots: &mut [Slot], message: &[u8]) -> CSending
 // To compare with NX584_VERSION.
 #[no_mangle]
 pub extern "C" fn nx584_version() -> u32
-    ensures { λ r. ⌜ r ≡ 5 ⌝ }
+    ensures { λ r. ⌜ r ≡ 6 ⌝ }
 {
     VERSION
 }
@@ -730,6 +730,18 @@ pub extern "C" fn nx584_keep(log: &mut [u8], used: usize, message: &[u8]) -> CWr
     CWritten {
         number: added.number,
         length: added.length,
+    }
+}
+
+// The log made smaller where it stands.
+#[no_mangle]
+pub extern "C" fn nx584_make_room(log: &mut [u8], used: usize) -> CWritten
+    ensures { λ r. ⌜ CMakesRoom (now (log .entry)) used r (now (log .exit)) ⌝ }
+{
+    let won = log::make_room(log, used);
+    CWritten {
+        number: won.number,
+        length: won.length,
     }
 }
 

@@ -5,12 +5,13 @@ use std::io::{self, Read};
 
 use crate::commands::{from_memory, take, tick, to_memory, told, Sending, Slot, LONGEST_COMMAND};
 use crate::commands::{SLOTS, SLOT_BYTES};
-use crate::log::{keep, newest, Changed, Found};
+use crate::log::{keep, newest, Changed, Found, Kept};
 use crate::log_made;
 use crate::messages::LONGEST;
 use crate::odd::Wrong;
 use crate::parts::{Escapes, Lenient, Strict};
 use crate::reader::{read, Reader, Reading};
+use crate::room::make_room;
 use crate::table::{self, apply, hear, view, Group, Overview};
 use crate::writer::{reply, write, Written};
 
@@ -56,10 +57,11 @@ pub enum Call {
     Change { place: usize, byte: u8 },
     Keep { log: LentLog, message: Vec<u8> },
     Newest { log: LentLog, zone: u8 },
+    MakeRoom { log: LentLog },
 }
 
 /// The version of nx584.h that is meant here.
-const VERSION: u32 = 5;
+const VERSION: u32 = 6;
 /// The bytes of nx584_zone_record, nx584_partition_record and nx584_system_record.
 const ZONE_RECORD: usize = 9;
 const PARTITION_RECORD: usize = 10;
@@ -92,7 +94,7 @@ pub enum Answer {
         sending: Sending,
         slots: Vec<u8>,
     },
-    /// What is said, and what changed of the log.
+    /// What is said of a log, and what changed of it: by a keep, or where room was made.
     Kept {
         number: u8,
         length: u64,
@@ -135,10 +137,13 @@ impl Second {
         Answer::Sending { sending, slots }
     }
 
-    fn keep(&mut self, lent: &LentLog, message: &[u8]) -> Answer {
-        let before = lent.bytes.as_ref().unwrap_or(&self.log);
-        let kept = keep(before, lent.used, message);
-        let changed = Changed::between(before, &kept.log);
+    pub fn log_of<'a>(&'a self, lent: &'a LentLog) -> &'a [u8] {
+        lent.bytes.as_ref().unwrap_or(&self.log)
+    }
+
+    /// Answers what became of a lent log; the kept one is kept as it comes back.
+    pub fn kept(&mut self, lent: &LentLog, kept: Kept) -> Answer {
+        let changed = Changed::between(self.log_of(lent), &kept.log);
         if lent.bytes.is_none() {
             self.log = kept.log;
         }
@@ -218,10 +223,17 @@ impl Library for Second {
                 self.log[*place] = *byte;
                 Answer::Nothing
             }
-            Call::Keep { log, message } => self.keep(log, message),
+            Call::Keep { log, message } => {
+                let kept = keep(self.log_of(log), log.used, message);
+                self.kept(log, kept)
+            }
             Call::Newest { log, zone } => {
-                let found = newest(log.bytes.as_ref().unwrap_or(&self.log), log.used, *zone);
+                let found = newest(self.log_of(log), log.used, *zone);
                 Answer::Found { found, changed: Changed::default() }
+            }
+            Call::MakeRoom { log } => {
+                let kept = make_room(self.log_of(log), log.used);
+                self.kept(log, kept)
             }
         }
     }
@@ -317,6 +329,7 @@ impl Call {
                 | Call::Told { slots: None, .. }
                 | Call::Keep { log: LentLog { bytes: None, .. }, .. }
                 | Call::Newest { log: LentLog { bytes: None, .. }, .. }
+                | Call::MakeRoom { log: LentLog { bytes: None, .. } }
         )
     }
 
@@ -345,6 +358,7 @@ impl Call {
             Call::Change { .. } => 21,
             Call::Keep { .. } => 22,
             Call::Newest { .. } => 23,
+            Call::MakeRoom { .. } => 24,
         }
     }
 
@@ -400,6 +414,7 @@ impl Call {
                 put_log(line, log);
                 line.push(*zone);
             }
+            Call::MakeRoom { log } => put_log(line, log),
             Call::Take { slots, message } | Call::Told { slots, message } => {
                 slots.iter().for_each(|lent| put_buffer(line, &lent.bytes));
                 put_buffer(line, message);
@@ -453,7 +468,7 @@ impl Call {
             Call::Zone { .. } => Answer::Record(taken.bytes(ZONE_RECORD)?),
             Call::Partition { .. } => Answer::Record(taken.bytes(PARTITION_RECORD)?),
             Call::System { .. } => Answer::Record(taken.bytes(SYSTEM_RECORD)?),
-            Call::Keep { .. } => {
+            Call::Keep { .. } | Call::MakeRoom { .. } => {
                 let (number, length) = (taken.byte()?, taken.number(8)?);
                 match taken.changed()? {
                     Some(changed) => Answer::Kept { number, length, changed },
@@ -652,6 +667,7 @@ impl fmt::Display for Call {
             Call::Change { place, byte } => write!(f, "change place {place} byte {byte:02X}"),
             Call::Keep { log, message } => write!(f, "keep message {} {log}", Hex(message)),
             Call::Newest { log, zone } => write!(f, "newest zone {zone} {log}"),
+            Call::MakeRoom { log } => write!(f, "make_room {log}"),
         }
     }
 }

@@ -1,5 +1,5 @@
-//! Document 01's bench cards, the expected values typed from its page, and some for document 02, Nos. 2, 5 and 6.
-//! They are asked of the second program itself, and of the library where there is one. All that are read hold
+//! Document 01's bench cards, the expected values typed from its page, and some for document 02, Nos. 2 and 5 to
+//! 7. They are asked of the second program itself, and of the library where there is one. All that are read hold
 //! under both rules of escapes, but for those of No. 5.
 
 use crate::calls::{Answer, Call, LentLog, Library};
@@ -275,12 +275,7 @@ fn card_4_noisy(library: &mut impl Library) -> bool {
 fn kept(library: &mut impl Library, log: &[u8], used: u64, message: &[u8]) -> (u8, u64, Vec<u8>) {
     let lent = LentLog { bytes: Some(log.to_vec()), used, wrong: None };
     match library.call(&Call::Keep { log: lent, message: message.to_vec() }) {
-        Answer::Kept { number, length, changed } => {
-            let mut after = log.to_vec();
-            let places = after.iter_mut().skip(changed.at as usize);
-            places.zip(changed.bytes).for_each(|(place, byte)| *place = byte);
-            (number, length, after)
-        }
+        Answer::Kept { number, length, changed } => (number, length, changed.after(log)),
         _ => (NONE, 0, Vec::new()),
     }
 }
@@ -363,9 +358,134 @@ fn log_cards(library: &mut impl Library) -> [(&'static str, bool); 4] {
     ]
 }
 
+/// The number, the bytes won and the log afterwards where room is made.
+fn made_room(library: &mut impl Library, log: &[u8], used: usize) -> (u8, u64, Vec<u8>) {
+    let lent = LentLog { bytes: Some(log.to_vec()), used: used as u64, wrong: None };
+    match library.call(&Call::MakeRoom { log: lent }) {
+        Answer::Kept { number, length, changed } => (number, length, changed.after(log)),
+        _ => (NONE, 0, Vec::new()),
+    }
+}
+
+fn log_of(messages: &[Vec<u8>]) -> Vec<u8> {
+    messages.iter().flat_map(|message| [&message[..], &[message.len() as u8]].concat()).collect()
+}
+
+/// Of a log of these messages, with EE EE EE beyond it, those that are named by their places stay, in their
+/// order; the bytes beyond them are what they were, and a second call wins nothing.
+fn these_stay(library: &mut impl Library, messages: &[Vec<u8>], stay: &[usize]) -> bool {
+    let used = log_of(messages).len();
+    let log = [log_of(messages), vec![0xEE; 3]].concat();
+    let kept = log_of(&stay.iter().map(|&place| messages[place].clone()).collect::<Vec<_>>());
+    let after = [&kept[..], &log[kept.len()..]].concat();
+    made_room(library, &log, used) == (0, (used - kept.len()) as u64, after.clone())
+        && made_room(library, &after, kept.len()) == (0, 0, after)
+}
+
+/// 04h of a zone, 05h of an offset, 06h of a partition, 07h and 08h that say what tells them from others.
+fn zone(zone: u8, says: u8) -> Vec<u8> {
+    vec![0x04, zone, says, 0, 0, 0, 0, 0]
+}
+
+fn sixteen(offset: u8) -> Vec<u8> {
+    vec![0x85, offset, 0x10, 0, 0, 0, 0, 0, 0, 0x01]
+}
+
+fn partition(partition: u8, says: u8) -> Vec<u8> {
+    vec![0x06, partition, says, 0, 0, 0, 0, 0, 0]
+}
+
+fn partitions(says: u8) -> Vec<u8> {
+    vec![0x87, says, 0, 0, 0, 0, 0, 0, 0]
+}
+
+fn system(says: u8) -> Vec<u8> {
+    vec![0x08, says, 0, 0, 0, 0, 0, 0, 0, 0, 0, 0]
+}
+
+/// 04h of each of these zones behind a 05h of offset 0.
+fn sixteen_and(zones: &[u8]) -> Vec<Vec<u8>> {
+    [vec![sixteen(0)], zones.iter().map(|&k| zone(k, 0)).collect()].concat()
+}
+
+/// An 04h goes for a later one of its zone, and for nothing else.
+fn zones_that_go(library: &mut impl Library) -> bool {
+    let many = [zone(9, 1), zone(8, 2), zone(9, 3), zone(10, 4), zone(9, 5), zone(10, 6)];
+    these_stay(library, &[MESSAGE_4.to_vec(), zone(9, 1)], &[1])
+        && these_stay(library, &[zone(9, 1), zone(9, 1)], &[1])
+        && these_stay(library, &many, &[1, 4, 5])
+        && these_stay(library, &[zone(9, 1), zone(10, 2), zone(9, 3)], &[1, 2])
+        && these_stay(library, &[zone(9, 1), sixteen(0)], &[0, 1])
+        && these_stay(library, &[zone(255, 1), sixteen(240), zone(255, 2)], &[1, 2])
+}
+
+/// A zone of a 05h that no later one covers: the last, the first, the eighth, the one between two others.
+fn fifteen_of_sixteen(library: &mut impl Library) -> bool {
+    let all_but_8th = sixteen_and(&[0, 1, 2, 3, 4, 5, 6, 8, 9, 10, 11, 12, 13, 14, 15]);
+    these_stay(library, &[sixteen(1), sixteen(0)], &[0, 1])
+        && these_stay(library, &[sixteen(0), sixteen(1)], &[0, 1])
+        && these_stay(library, &all_but_8th, &[0, 1, 2, 3, 4, 5, 6, 7, 8, 9, 10, 11, 12, 13, 14, 15])
+        && these_stay(library, &[sixteen(16), sixteen(0), sixteen(17)], &[0, 1, 2])
+}
+
+/// Sixteen 04h, two 05h, some of both, and the same 05h again.
+fn all_sixteen(library: &mut impl Library) -> bool {
+    let by_zones = sixteen_and(&[15, 14, 13, 12, 11, 10, 9, 8, 7, 6, 5, 4, 3, 2, 1, 0]);
+    let mut by_both = sixteen_and(&[0, 1, 2, 3, 4, 5, 6, 7]);
+    by_both.insert(5, sixteen(8));
+    these_stay(library, &by_zones, &[1, 2, 3, 4, 5, 6, 7, 8, 9, 10, 11, 12, 13, 14, 15, 16])
+        && these_stay(library, &by_both, &[1, 2, 3, 4, 5, 6, 7, 8, 9])
+        && these_stay(library, &[sixteen(16), sixteen(8), sixteen(24)], &[1, 2])
+        && these_stay(library, &[sixteen(0), sixteen(0), sixteen(0)], &[2])
+}
+
+/// 06h and 07h say nothing of each other over, as many as there may be.
+fn partitions_and_system(library: &mut impl Library) -> bool {
+    let eight: Vec<Vec<u8>> = (0..8).map(|k| partition(k, 0)).collect();
+    let then_eight = [vec![partitions(1)], eight].concat();
+    these_stay(library, &[partition(2, 1), partitions(2)], &[0, 1])
+        && these_stay(library, &then_eight, &[0, 1, 2, 3, 4, 5, 6, 7, 8])
+        && these_stay(library, &[partition(7, 1), partition(0, 2), partition(7, 3)], &[1, 2])
+        && these_stay(library, &[partitions(1), partition(2, 2), partitions(3)], &[1, 2])
+        && these_stay(library, &[system(1), partitions(2), system(3)], &[1, 2])
+}
+
+/// Nothing is won in an empty log, whatever stands beyond it; 16 and 17 leave all as it was.
+fn room_refused(library: &mut impl Library) -> bool {
+    let log = log_of(&[zone(9, 1), zone(9, 2)]);
+    let mut unsound = log.clone();
+    unsound[8] = 9;
+    made_room(library, &[], 0) == (0, 0, vec![])
+        && made_room(library, &log, 0) == (0, 0, log.clone())
+        && made_room(library, &log, 19) == (16, 0, log.clone())
+        && made_room(library, &log, 17) == (17, 0, log.clone())
+        && made_room(library, &unsound, 18) == (17, 0, unsound.clone())
+        && made_room(library, &unsound, 19) == (16, 0, unsound)
+}
+
+/// Two 04h of a zone fill 18 bytes: card 4's message has no room, then there is some, and it is kept.
+fn room_for_card_4(library: &mut impl Library) -> bool {
+    let log = log_of(&[zone(9, 1), zone(9, 2)]);
+    let won = made_room(library, &log, 18);
+    kept(library, &log, 18, MESSAGE_4) == (9, 0, log)
+        && won == (0, 9, log_of(&[zone(9, 2), zone(9, 2)]))
+        && kept(library, &won.2, 9, MESSAGE_4) == (0, 9, log_of(&[zone(9, 2), MESSAGE_4.to_vec()]))
+}
+
+fn room_cards(library: &mut impl Library) -> [(&'static str, bool); 6] {
+    [
+        ("room: 04h twice, and before a 05h", zones_that_go(library)),
+        ("room: 05h with 15 of its 16 zones covered stays", fifteen_of_sixteen(library)),
+        ("room: 05h with all 16 covered together goes", all_sixteen(library)),
+        ("room: 06h, 07h and 08h", partitions_and_system(library)),
+        ("room: an empty log, 16 and 17", room_refused(library)),
+        ("room: 9, room made, card 4's message kept", room_for_card_4(library)),
+    ]
+}
+
 /// Each card's name, and whether the library answers as the card says.
 pub fn cards(library: &mut impl Library) -> Vec<(&'static str, bool)> {
-    [protocol_cards(library), log_cards(library).to_vec()].concat()
+    [protocol_cards(library), log_cards(library).to_vec(), room_cards(library).to_vec()].concat()
 }
 
 fn protocol_cards(library: &mut impl Library) -> Vec<(&'static str, bool)> {

@@ -7,6 +7,7 @@ use crate::messages::{LENGTHS, LONGEST, LONGEST_KNOWN};
 use crate::odd::{Wrong, WRONGS};
 use crate::parts::{length_in, unstuffed, Strict};
 use crate::reader::{escapes_of, framing_of, Reader, NONE};
+use crate::room_counts::RoomCounts;
 
 /// What is counted apart, and the numbers that a run must have met in it.
 const ROWS: [(&str, &[u8]); 34] = [
@@ -93,6 +94,7 @@ pub struct Counts {
     /// The driver's kept reader, which a call may go on with.
     kept: Reader,
     log: LogCounts,
+    room: RoomCounts,
 }
 
 /// A verdict that fell, and the part in which it did, as far as that had come before the byte that decides.
@@ -145,6 +147,7 @@ impl Counts {
             bad_escapes: [[[0; 256]; CUTS.len()]; PLACES.len()],
             kept: Reader::fresh(0, Strict),
             log: LogCounts::new(),
+            room: RoomCounts::new(),
         }
     }
 
@@ -157,6 +160,7 @@ impl Counts {
         let theirs = other.lengths.iter().flatten().chain(other.bad_escapes.iter().flatten());
         mine.flatten().zip(theirs.flatten()).for_each(|(mine, theirs)| *mine += theirs);
         self.log.add(&other.log);
+        self.room.add(&other.room);
     }
 
     fn fallen(&self, call: &Call, answer: &Answer) -> Option<Fallen> {
@@ -252,6 +256,7 @@ impl Counts {
         self.keep(call, answer);
         self.count_numbers(call, answer);
         self.log.count(call, answer);
+        self.room.count(call, answer);
     }
 
     fn count_numbers(&mut self, call: &Call, answer: &Answer) {
@@ -357,6 +362,7 @@ impl Counts {
         self.print_lengths(&mut missing);
         self.print_bad_escapes(&mut missing);
         self.log.print(&mut missing);
+        self.room.print(&mut missing);
         missing
     }
 }

@@ -11,7 +11,7 @@ pub const KEPT: [u8; 5] = [0x04, 0x05, 0x06, 0x07, 0x08];
 /// A 05h says so many zones, from its offset on.
 pub const COVERED: u16 = 16;
 
-/// The fields of nx584_written, and the log afterwards.
+/// The fields of nx584_written, and the log afterwards: when a message was kept, or room was made.
 pub struct Kept {
     pub number: u8,
     pub length: u64,
@@ -42,6 +42,19 @@ impl Changed {
         let first = (0..after.len()).find(differs).unwrap_or(0);
         let end = (first..after.len()).rev().find(differs).map_or(first, |last| last + 1);
         Changed { at: first as u64, bytes: after[first..end].to_vec() }
+    }
+
+    /// Puts what changed into the log as it was before.
+    pub fn put(&self, log: &mut [u8]) {
+        let places = log.iter_mut().skip(self.at as usize);
+        places.zip(&self.bytes).for_each(|(place, &byte)| *place = byte);
+    }
+
+    /// The log afterwards.
+    pub fn after(&self, before: &[u8]) -> Vec<u8> {
+        let mut log = before.to_vec();
+        self.put(&mut log);
+        log
     }
 }
 
@@ -89,8 +102,8 @@ fn most(log: &[u8]) -> usize {
     log.len().min(LOG_MOST)
 }
 
-/// The records of a lent log, or 16 or 17.
-fn lent_records(log: &[u8], used: u64) -> Result<Vec<Range<usize>>, u8> {
+/// The records of a lent log, the newest first, or 16 or 17.
+pub fn lent_records(log: &[u8], used: u64) -> Result<Vec<Range<usize>>, u8> {
     if used > most(log) as u64 {
         return Err(16);
     }

@@ -3,7 +3,7 @@
 
 use std::ops::Range;
 
-use crate::calls::{Answer, Call, LentLog, Library, Second};
+use crate::calls::{Answer, Call, Library, Second};
 use crate::log::{is_about, record, Changed, Found, Kept, KEPT, LOG_MOST};
 use crate::log_trials::ASKED;
 use crate::made::Chance;
@@ -12,7 +12,7 @@ use crate::planted::{differs, note, note_none};
 use crate::Tally;
 
 #[derive(Clone, Copy, PartialEq)]
-enum Fault {
+pub enum Fault {
     Nothing,
     // what a record is about
     Covers(u16),
@@ -67,7 +67,7 @@ enum Fault {
     FoundAt17,
 }
 
-const FAULTS: [(Fault, &str); 56] = [
+pub const FAULTS: [(Fault, &str); 56] = [
     (Fault::Covers(15), "05h covers 15 zones"),
     (Fault::Covers(17), "05h covers 17 zones"),
     (Fault::NotTheOffset, "05h covers all but its offset"),
@@ -136,15 +136,14 @@ struct Walked {
 }
 
 /// The second program with a fault.
-struct Faulty {
+pub struct Faulty {
     fault: Fault,
     right: Second,
-    log: Vec<u8>,
 }
 
 impl Faulty {
-    fn new(fault: Fault) -> Faulty {
-        Faulty { fault, right: Second::new(), log: Vec::new() }
+    pub fn new(fault: Fault) -> Faulty {
+        Faulty { fault, right: Second::new() }
     }
 
     fn has(&self, fault: Fault) -> bool {
@@ -214,7 +213,7 @@ impl Faulty {
     }
 
     /// 16, 17 or 0, and the records as far as walking back came.
-    fn lent(&self, log: &[u8], used: u64) -> (u8, Vec<Range<usize>>) {
+    pub fn lent(&self, log: &[u8], used: u64) -> (u8, Vec<Range<usize>>) {
         let (used, length) = (self.used(used), log.len() as u64);
         let most = if let Fault::UsedMost(most) = self.fault { most } else { LOG_MOST };
         let beyond = match self.fault {
@@ -341,33 +340,17 @@ impl Faulty {
             _ => Found { number, at: 0, length: 0 },
         }
     }
-
-    fn log_of<'a>(&'a self, lent: &'a LentLog) -> &'a [u8] {
-        lent.bytes.as_ref().unwrap_or(&self.log)
-    }
 }
 
 impl Library for Faulty {
     fn call(&mut self, call: &Call) -> Answer {
         match call {
-            Call::LendLog { log } => {
-                self.log = log.clone();
-                Answer::Nothing
-            }
-            Call::Change { place, byte } => {
-                self.log[*place] = *byte;
-                Answer::Nothing
-            }
             Call::Keep { log, message } => {
-                let kept = self.keep(self.log_of(log), log.used, message);
-                let changed = Changed::between(self.log_of(log), &kept.log);
-                if log.bytes.is_none() {
-                    self.log = kept.log;
-                }
-                Answer::Kept { number: kept.number, length: kept.length, changed }
+                let kept = self.keep(self.right.log_of(log), log.used, message);
+                self.right.kept(log, kept)
             }
             Call::Newest { log, zone } => {
-                let found = self.newest(self.log_of(log), log.used, *zone);
+                let found = self.newest(self.right.log_of(log), log.used, *zone);
                 Answer::Found { found, changed: Changed::default() }
             }
             _ => self.right.call(call),

@@ -12,6 +12,16 @@ use crate::messages::{length_of, LONGEST, LONGEST_KNOWN};
 /// Anything that takes calls.
 pub type Ask<'a> = dyn FnMut(Call) -> Answer + 'a;
 
+/// What is asked of anything, as trials of the library.
+macro_rules! as_trials {
+    ($($trial:ident: $ask:ident,)*) => {
+        $(pub fn $trial(chance: &mut Chance, calls: &mut Calls, _: u64) {
+            $ask(chance, &mut |call| calls.call(call));
+        })*
+    };
+}
+pub(crate) use as_trials;
+
 /// The trials with a fixed number of calls.
 pub const ASKED: [fn(&mut Chance, &mut Ask); 11] = [
     ask_wrongs,
@@ -28,13 +38,13 @@ pub const ASKED: [fn(&mut Chance, &mut Ask); 11] = [
 ];
 
 /// A buffer that is longer than any log.
-const LONG_BUFFER: usize = 70_000;
+pub const LONG_BUFFER: usize = 70_000;
 /// A log of more bytes than this is lent once and kept for several calls.
 const KEPT_FROM: usize = 1_000;
 /// Each thing is made wrong so often with each record of a log of up to four.
 const WRONG_TURNS: u64 = ODD_LOGS;
 
-fn kept(used: usize) -> LentLog {
+pub fn kept(used: usize) -> LentLog {
     LentLog { bytes: None, used: used as u64, wrong: None }
 }
 
@@ -47,14 +57,14 @@ fn lend(ask: &mut Ask, bytes: Vec<u8>, used: u64) -> LentLog {
 }
 
 /// Keeps a message, and says how many bytes that added.
-fn keep(ask: &mut Ask, log: &LentLog, message: &[u8]) -> usize {
+pub fn keep(ask: &mut Ask, log: &LentLog, message: &[u8]) -> usize {
     match ask(Call::Keep { log: log.clone(), message: message.to_vec() }) {
         Answer::Kept { length, .. } => length as usize,
         _ => 0,
     }
 }
 
-fn newest(ask: &mut Ask, log: &LentLog, zone: u8) {
+pub fn newest(ask: &mut Ask, log: &LentLog, zone: u8) {
     ask(Call::Newest { log: log.clone(), zone });
 }
 
@@ -63,7 +73,7 @@ fn every_zone(ask: &mut Ask, log: &LentLog) {
 }
 
 /// A message that is kept, more often than not.
-fn offered(chance: &mut Chance) -> Vec<u8> {
+pub fn offered(chance: &mut Chance) -> Vec<u8> {
     match chance.below(8) {
         0 => made::some_good_message(chance),
         1 => made::doubtful_message(chance),
@@ -82,7 +92,7 @@ fn told_zone(chance: &mut Chance, log: &[u8]) -> u8 {
 }
 
 /// So many bytes of a buffer, a log first and anything behind it.
-fn padded(chance: &mut Chance, mut log: Vec<u8>, length: usize) -> Vec<u8> {
+pub fn padded(chance: &mut Chance, mut log: Vec<u8>, length: usize) -> Vec<u8> {
     let more = length - log.len();
     log.extend(made::bytes(chance, more));
     log
@@ -142,7 +152,7 @@ fn ask_types(chance: &mut Chance, ask: &mut Ask) {
 // ---- the buffer and its used bytes
 
 /// Used lengths at every edge of a buffer, of what a log may use, and of numbers of 16, 32 and 64 bits.
-fn edges(length: usize) -> Vec<u64> {
+pub fn edges(length: usize) -> Vec<u64> {
     let (length, most) = (length as u64, LOG_MOST as u64);
     let mut edges = vec![0, 1, 8, 9, 10, 13, length.saturating_sub(1), length, length + 1];
     edges.extend([most - 1, most, most + 1, most + 9, 1 << 32, (1 << 32) + 9, 1 << 63, (1 << 63) + 9]);
@@ -153,7 +163,7 @@ fn edges(length: usize) -> Vec<u64> {
 }
 
 /// A buffer's bytes: sound up to so many used ones, whole or in 16 or in 32 bits, where there are as many; any.
-fn contents(chance: &mut Chance, length: usize, used: u64) -> Vec<Vec<u8>> {
+pub fn contents(chance: &mut Chance, length: usize, used: u64) -> Vec<Vec<u8>> {
     let mut sound = vec![used, used & 0xFFFF, used & 0xFFFF_FFFF];
     sound.dedup();
     let logs: Vec<_> = sound.iter().filter_map(|&s| filled(chance, (s as usize).min(length))).collect();
@@ -294,7 +304,7 @@ fn ask_full(chance: &mut Chance, ask: &mut Ask) {
 }
 
 /// Lends a full log in a longer buffer, and says its bytes.
-fn lend_full(chance: &mut Chance, ask: &mut Ask) -> Vec<u8> {
+pub fn lend_full(chance: &mut Chance, ask: &mut Ask) -> Vec<u8> {
     let log = filled(chance, LOG_MOST).expect("records have as many bytes");
     ask(Call::LendLog { log: padded(chance, log.clone(), LONG_BUFFER) });
     log
@@ -323,48 +333,18 @@ fn ask_full_cut(chance: &mut Chance, ask: &mut Ask) {
 
 // ---- as trials of the library
 
-pub fn all_types(chance: &mut Chance, calls: &mut Calls, _: u64) {
-    ask_types(chance, &mut |call| calls.call(call));
-}
-
-pub fn all_edges(chance: &mut Chance, calls: &mut Calls, _: u64) {
-    ask_edges(chance, &mut |call| calls.call(call));
-}
-
-pub fn all_rooms(chance: &mut Chance, calls: &mut Calls, _: u64) {
-    ask_rooms(chance, &mut |call| calls.call(call));
-}
-
-pub fn all_wrongs(chance: &mut Chance, calls: &mut Calls, _: u64) {
-    ask_wrongs(chance, &mut |call| calls.call(call));
-}
-
-pub fn damaged(chance: &mut Chance, calls: &mut Calls, _: u64) {
-    ask_damaged(chance, &mut |call| calls.call(call));
-}
-
-pub fn cuts(chance: &mut Chance, calls: &mut Calls, _: u64) {
-    ask_cuts(chance, &mut |call| calls.call(call));
-}
-
-pub fn all_zones(chance: &mut Chance, calls: &mut Calls, _: u64) {
-    ask_zones(chance, &mut |call| calls.call(call));
-}
-
-pub fn many_records(chance: &mut Chance, calls: &mut Calls, _: u64) {
-    ask_many(chance, &mut |call| calls.call(call));
-}
-
-pub fn full(chance: &mut Chance, calls: &mut Calls, _: u64) {
-    ask_full(chance, &mut |call| calls.call(call));
-}
-
-pub fn full_damaged(chance: &mut Chance, calls: &mut Calls, _: u64) {
-    ask_full_damaged(chance, &mut |call| calls.call(call));
-}
-
-pub fn full_cut(chance: &mut Chance, calls: &mut Calls, _: u64) {
-    ask_full_cut(chance, &mut |call| calls.call(call));
+as_trials! {
+    all_types: ask_types,
+    all_edges: ask_edges,
+    all_rooms: ask_rooms,
+    all_wrongs: ask_wrongs,
+    damaged: ask_damaged,
+    cuts: ask_cuts,
+    all_zones: ask_zones,
+    many_records: ask_many,
+    full: ask_full,
+    full_damaged: ask_full_damaged,
+    full_cut: ask_full_cut,
 }
 
 /// Messages kept and zones asked for, one log from run to run, as a host has it: what was added is added to what

@@ -23,6 +23,13 @@ mod parts;
 mod planted;
 mod reader;
 mod report;
+mod room;
+mod room_counts;
+mod room_faults;
+mod room_laws;
+mod room_made;
+mod room_trials;
+mod rows;
 mod selftest;
 mod table;
 mod trials;
@@ -115,8 +122,10 @@ fn run_self(words: &Words) -> ! {
     }
     tally.note("card 13: the report", cards::card_13_is_reported());
     selftest::run(&mut Chance::new(words.seed()), &mut tally);
+    room_laws::run(&mut Chance::new(words.seed()), &mut tally);
     faults::run(&mut tally);
     log_faults::run(words.seed(), &mut tally);
+    room_faults::run(words.seed(), &mut tally);
     tally.end()
 }
 

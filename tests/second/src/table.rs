@@ -5,6 +5,8 @@ use crate::reader::{read, refused, Reader, Reading};
 use crate::writer::reply;
 
 pub const TABLE_BYTES: usize = 2132;
+/// "All zero is fresh."
+static FRESH: [u8; TABLE_BYTES] = [0; TABLE_BYTES];
 const ZONE_BYTES: usize = 8;
 const PARTITIONS: usize = 256 * ZONE_BYTES;
 const PARTITION_BYTES: usize = 9;
@@ -21,6 +23,16 @@ fn zone(number: usize) -> usize {
 
 fn partition(number: usize) -> usize {
     PARTITIONS + PARTITION_BYTES * number
+}
+
+fn is_mark(place: usize) -> bool {
+    if place < PARTITIONS {
+        place % ZONE_BYTES == MARK
+    } else if place < SYSTEM {
+        (place - PARTITIONS) % PARTITION_BYTES == MARK
+    } else {
+        place == SYSTEM + MARK
+    }
 }
 
 /// The short flags that a zone status says, from its two condition bytes.
@@ -73,6 +85,13 @@ fn writes(table: &[u8], message: &[u8]) -> Vec<(usize, u8)> {
         _ => {}
     }
     writes
+}
+
+/// What a good message writes, whatever it says: a place, and which bits of the byte there. Of a mark those that
+/// it sets, of any other byte all.
+pub fn decided(message: &[u8]) -> Vec<(usize, u8)> {
+    let bits = |(place, value)| (place, if is_mark(place) { value } else { 0xFF });
+    writes(&FRESH, message).into_iter().map(bits).collect()
 }
 
 /// Puts a message into a table: 0, or 11, 4, 6, 7, 8 with every byte left alone.

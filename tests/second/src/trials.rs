@@ -11,6 +11,7 @@ use crate::made::{self, Chance};
 use crate::messages::{LENGTHS, LONGEST, LONGEST_KNOWN};
 use crate::parts::{frame, Ascii, Binary, Escapes, Framing, Lenient, Strict, RULES};
 use crate::reader::{framing_of, Reader, Reading, NONE};
+use crate::room_trials;
 use crate::table::TABLE_BYTES;
 
 /// A trial makes its calls: all there are, or as many as it is given.
@@ -21,7 +22,7 @@ pub struct Trial {
     pub make: fn(&mut Chance, &mut Calls, u64),
 }
 
-pub const TRIALS: [Trial; 47] = [
+pub const TRIALS: [Trial; 63] = [
     Trial { name: "reply: all 65,536 pairs", share: 0, make: all_replies },
     Trial { name: "every type byte at every length to 20", share: 0, make: all_types_and_lengths },
     Trial { name: "every value of every byte of every message", share: 0, make: all_values },
@@ -61,7 +62,24 @@ pub const TRIALS: [Trial; 47] = [
     Trial { name: "log: kept from empty to full", share: 0, make: log_trials::full },
     Trial { name: "log: a full one damaged at a byte", share: 0, make: log_trials::full_damaged },
     Trial { name: "log: a full one cut at every place", share: 0, make: log_trials::full_cut },
-    Trial { name: "streams cut at random, read and step", share: 26, make: cut_streams },
+    Trial { name: "room: every two records that may meet", share: 0, make: room_trials::all_pairs },
+    Trial { name: "room: 05h covered but for any zones", share: 0, make: room_trials::all_sixteens },
+    Trial { name: "room: 06h of any partitions, and 07h", share: 0, make: room_trials::all_partitions },
+    Trial { name: "room: the same record again", share: 0, make: room_trials::again },
+    Trial { name: "room: to the byte, and used", share: 0, make: room_trials::all_rooms },
+    Trial { name: "room: every edge of the used length", share: 0, make: room_trials::all_edges },
+    Trial { name: "room: logs with one thing wrong", share: 0, make: room_trials::all_wrongs },
+    Trial { name: "room: every value at every place", share: 0, make: room_trials::damaged },
+    Trial { name: "room: cut at every place", share: 0, make: room_trials::cuts },
+    Trial {
+        name: "room: every zone and the table of many records",
+        share: 0,
+        make: room_trials::many_records,
+    },
+    Trial { name: "room: full logs", share: 0, make: room_trials::full },
+    Trial { name: "room: a full one damaged at a byte", share: 0, make: room_trials::full_damaged },
+    Trial { name: "room: a full one cut", share: 0, make: room_trials::full_cut },
+    Trial { name: "streams cut at random, read and step", share: 22, make: cut_streams },
     Trial { name: "streams cut at random, hear", share: 13, make: heard_streams },
     Trial { name: "the same streams under both rules of escapes", share: 9, make: same_streams },
     Trial { name: "readers of any kind", share: 13, make: any_readers },
@@ -73,6 +91,9 @@ pub const TRIALS: [Trial; 47] = [
     Trial { name: "commands: runs from any sound slots", share: 3, make: lines::runs_from_any },
     Trial { name: "log: runs from an empty log", share: 3, make: log_trials::runs_from_empty },
     Trial { name: "log: any log", share: 2, make: log_trials::any_logs },
+    Trial { name: "room: runs from an empty log", share: 2, make: room_trials::runs_from_empty },
+    Trial { name: "room: runs in 5,236 bytes", share: 1, make: room_trials::runs_in_enough },
+    Trial { name: "room: any log", share: 1, make: room_trials::any_logs },
 ];
 
 pub const FRAMINGS: [Framing; 2] = [Binary, Ascii];
