@@ -309,10 +309,10 @@ fn move_record(log: &mut [u8], to: usize, last: usize) -> usize
 {
     let n = log[last] as usize + 1;
     let from = last + 1 - n;
-    let mut i: usize = 0;
-    while i < n {
-        log[to + i] = log[from + i];
-        i += 1;
+    let mut moved: usize = 0;
+    while moved < n {
+        log[to + moved] = log[from + moved];
+        moved += 1;
     }
     to + n
 }

@@ -12,10 +12,10 @@ use Rattle.log.proofs.move_record.Statement.{statement}
 use Rattle.log.proofs.move_record.Tie as tie
 
 abbrev Inv-loop : tie.InvT-loop
-Inv-loop log₀ to last n from i₀ log i = Put log₀ to (take i (drop from log₀)) log (to + i) × (i ≤ n)
+Inv-loop log₀ to last n from moved₀ log moved = Put log₀ to (take moved (drop from log₀)) log (to + moved) × (moved ≤ n)
 
 abbrev μ-loop : tie.MeasureT-loop
-μ-loop log₀ to last n from i₀ log i = n - i
+μ-loop log₀ to last n from moved₀ log moved = n - moved
 
 slice-read-n : tie.Need-slice-read-n Inv-loop μ-loop
 slice-read-n c = search needs
@@ -62,8 +62,8 @@ slice-write-log c =
     let n = put-length (l .inv .0) in
     omega arith
 
-add-i : tie.Need-add-i Inv-loop μ-loop
-add-i c = search needs
+add-moved : tie.Need-add-moved Inv-loop μ-loop
+add-moved c = search needs
 
 loop-less : tie.Need-loop-less Inv-loop μ-loop
 loop-less c = let t = c .before .loop-test .taken in omega arith
@@ -78,7 +78,7 @@ loop-again c =
     let t = c .before .loop-test .taken in
     let log = a .log .now in
     let from = a .last + 1 - (getD log (a .last) 0 + 1) in
-    (move-byte (a .to) from (l .i) (l .inv .0) (omega arith) (omega arith), omega arith)
+    (move-byte (a .to) from (l .moved) (l .inv .0) (omega arith) (omega arith), omega arith)
 
 add-result : tie.Need-add-result Inv-loop μ-loop
 add-result c = search needs
@@ -96,7 +96,7 @@ returns c =
     let log = a .log .now in
     let left = c .loop-test .left in
     let most = l .inv .1 in
-    (refl, move-whole (a .to) (a .last) (l .i) (l .inv .0) (omega arith) inside fits)
+    (refl, move-whole (a .to) (a .last) (l .moved) (l .inv .0) (omega arith) inside fits)
 
 pub move-record-spec : {M : Type 1} → statement M
 move-record-spec =
@@ -114,7 +114,7 @@ move-record-spec =
     slice-read-log
     add-log-2
     slice-write-log
-    add-i
+    add-moved
     loop-less
     loop-again
     add-result
