@@ -11,6 +11,7 @@ enum { RUNS = 9, CAPTURE = 1 << 16, LONGEST_CAPTURE = 1 << 24, MESSAGES = 4096 }
 enum { LONGEST_FRAME = 2 * (NX584_LONGEST + 3) + 2 };
 enum { ANY = -1, COMMANDS = -2, KEPT = -3 };     /* kinds of messages, beside the single ones */
 enum { LOGS_BYTES = 1 << 18, RECORD_MOST = 13 }; /* of all logs of a line, and of a record */
+enum { STAY_MOST = 256 * 9 + 241 * 11 + 8 * 10 + 10 + 13, STAY_LOGS = LOGS_BYTES / STAY_MOST }; /* nothing goes */
 static const double LEAST_SECONDS = 0.01;
 
 /* ---- made inputs, the same for every library */
@@ -158,36 +159,69 @@ static void make_long_frames(uint8_t framing, uint8_t *bytes, size_t length)
     memset(bytes + at, 0, length - at);
 }
 
-/* A log's record of a kind, about no zone above 128. */
+/* A log's record of a kind. */
 static size_t put_record(uint8_t *to, int kind)
 {
     size_t length = make_of_kind(to, kind);
-    to[1] &= 0x7F;
     to[length] = (uint8_t)length;
     return length + 1;
 }
 
-/* A record of 04h, zone 0 for zone 1. */
-static size_t put_zone(uint8_t *to, uint8_t zone)
+/* A record of a kind whose second byte is this: a zone or the first of sixteen, 0 for zone 1, or a partition. */
+static size_t put_about(uint8_t *to, int kind, uint8_t second)
 {
-    size_t length = put_record(to, 0);
-    to[1] = zone;
+    size_t length = put_record(to, kind);
+    to[1] = second;
     return length;
 }
 
-/* Mixed records, with room for one more: zone 256 is heard first and not again, zone 1 last. */
+/* Mixed records about no zone above 128, with room for one more; zone 256 is heard first and not again, zone 1
+ * last. */
 static size_t make_log(uint8_t *log, size_t length)
 {
-    size_t used = put_zone(log, 255);
-    while (used + 3 * RECORD_MOST <= length)
-        used += put_record(log + used, KEPT);
-    return used + put_zone(log + used, 0);
+    size_t used = put_about(log, 0, 255);
+    while (used + 3 * RECORD_MOST <= length) {
+        size_t record = put_record(log + used, KEPT);
+        log[used + 1] &= 0x7F;
+        used += record;
+    }
+    return used + put_about(log + used, 0, 0);
+}
+
+/* Records of a kind, about the whole site, until there is no room for one more: after a dry week. */
+static size_t fill_log(uint8_t *log, size_t length, int kind)
+{
+    size_t used = 0;
+    while (used + RECORD_MOST <= length)
+        used += put_record(log + used, kind);
+    return used;
+}
+
+static size_t make_site_log(uint8_t *log, size_t length) { return fill_log(log, length, KEPT); }
+static size_t make_zone_log(uint8_t *log, size_t length) { return fill_log(log, length, 0); }
+static size_t make_zones_log(uint8_t *log, size_t length) { return fill_log(log, length, 1); }
+
+/* As many records as can stay: an 04h of each zone, and behind it an 05h from that zone on, where sixteen are left;
+ * no later record is about its first zone. */
+static size_t make_staying_log(uint8_t *log, size_t length)
+{
+    size_t used = 0;
+    (void)length;
+    for (unsigned zone = 0; zone < 256; zone++) {
+        used += put_about(log + used, 0, (uint8_t)zone);
+        if (zone <= 240)
+            used += put_about(log + used, 1, (uint8_t)zone);
+    }
+    for (uint8_t partition = 0; partition < 8; partition++)
+        used += put_about(log + used, 2, partition);
+    used += put_record(log + used, 3);
+    return used + put_record(log + used, 4);
 }
 
 /* ---- the measurements */
 
 static uint8_t *capture, table[NX584_TABLE_BYTES];
-static station_log logs[LOGS_BYTES / (NX584_LOG_MOST / 4)];
+static station_log logs[STAY_LOGS];
 static size_t log_count;
 static nx584_slot slots[NX584_SLOTS];
 static messages made;
@@ -234,18 +268,23 @@ static void other_messages(size_t units)
 
 /* Full logs, so many bytes of them in all, and a message for each. With one log, walked again and again, a
  * processor learns its branches, and those of a short log sooner: so lines that are compared walk as many records. */
-static void make_logs(size_t units, size_t length)
+static void make_logs(size_t units, size_t length, size_t (*make)(uint8_t *log, size_t length))
 {
     log_count = units / length;
     for (size_t k = 0; k < log_count; k++) {
         uint8_t *log = capture + k * length;
-        logs[k] = (station_log){log, length, make_log(log, length)};
+        logs[k] = (station_log){log, length, make(log, length), log + units};
     }
+    memcpy(capture + units, capture, units);
     made = make_messages(KEPT, log_count);
 }
 
-static void full_logs(size_t units) { make_logs(units, NX584_LOG_MOST); }
-static void short_logs(size_t units) { make_logs(units, NX584_LOG_MOST / 4); }
+static void full_logs(size_t units) { make_logs(units, NX584_LOG_MOST, make_log); }
+static void short_logs(size_t units) { make_logs(units, NX584_LOG_MOST / 4, make_log); }
+static void site_logs(size_t units) { make_logs(units, NX584_LOG_MOST, make_site_log); }
+static void zone_logs(size_t units) { make_logs(units, NX584_LOG_MOST, make_zone_log); }
+static void zones_logs(size_t units) { make_logs(units, NX584_LOG_MOST, make_zones_log); }
+static void staying_logs(size_t units) { make_logs(units, STAY_MOST, make_staying_log); }
 
 static void noise(size_t units)
 {
@@ -275,6 +314,7 @@ static uint64_t told(size_t units) { return (void)units, loop_told(slots, &made)
 static uint64_t keep(size_t units) { return (void)units, loop_keep(logs, &made); }
 static uint64_t newest_heard_last(size_t units) { return (void)units, loop_newest(logs, log_count, 0); }
 static uint64_t newest_heard_first(size_t units) { return (void)units, loop_newest(logs, log_count, 255); }
+static uint64_t make_room(size_t units) { return (void)units, loop_make_room(logs, log_count); }
 
 static const struct line {
     const char *what, *unit;
@@ -318,6 +358,10 @@ static const struct line {
     {"newest, full log, heard last", "byte of it", full_logs, newest_heard_last, LOGS_BYTES},
     {"newest, full log, heard first", "byte of it", full_logs, newest_heard_first, LOGS_BYTES},
     {"newest, full log of 16 KiB, heard first", "byte of it", short_logs, newest_heard_first, LOGS_BYTES},
+    {"make room, full log", "byte of it", site_logs, make_room, LOGS_BYTES},
+    {"make room, full log of 04h", "byte of it", zone_logs, make_room, LOGS_BYTES},
+    {"make room, full log of 05h", "byte of it", zones_logs, make_room, LOGS_BYTES},
+    {"make room, 5,058-byte log, nothing goes", "byte of it", staying_logs, make_room, STAY_LOGS * STAY_MOST},
     {"read binary, 1 KiB", "byte", binary_frames, read_binary, 1 << 10},
     {"read binary, 64 KiB", "byte", binary_frames, read_binary, 1 << 16},
     {"read binary, 16 MiB", "byte", binary_frames, read_binary, LONGEST_CAPTURE},

@@ -566,3 +566,76 @@ nx584_found nx584_newest(const uint8_t *log, size_t log_len, size_t used, uint8_
     }
     return f;
 }
+
+/* ---- making room (document 02, No. 7) */
+
+/* The marks of a table's zones, of its partitions and of its system. A bit of a mark has its own bytes of the table,
+ * which every message writes that sets it, and no other does: so a record goes where later ones set all its bits. */
+enum { PARTITION_MARKS = 256, SYSTEM_MARK = 264, MARKS = 265 };
+enum { STAY_MOST = 256 + 256 + 8 + 1 + 1 }; /* of 04h to 08h */
+
+/* Whether one of so many marks has not all of the bits; then they all have. */
+static int set_marks(uint8_t *marks, size_t count, uint8_t bits)
+{
+    int is_new = 0;
+    for (size_t k = 0; k < count; k++) {
+        if ((marks[k] & bits) != bits)
+            is_new = 1;
+        marks[k] |= bits;
+    }
+    return is_new;
+}
+
+/* Whether a record sets a bit that no later one does. */
+static int is_needed(uint8_t *later, const uint8_t *m)
+{
+    switch (m[0] & 0x3F) {
+    case 0x04: return set_marks(later + m[1], 1, 3);
+    case 0x05: return set_marks(later + m[1], 16, 1);
+    case 0x06: return set_marks(later + PARTITION_MARKS + m[1], 1, 2);
+    case 0x07: return set_marks(later + PARTITION_MARKS, 8, 1);
+    default: return set_marks(later + SYSTEM_MARK, 1, 1);
+    }
+}
+
+/* Where the records of a sound log begin that stay, the newest first, and how many they are. */
+static size_t find_needed(const uint8_t *log, size_t used, uint16_t *places)
+{
+    uint8_t later[MARKS] = {0};
+    size_t count = 0;
+    while (used > 0) {
+        used -= log[used - 1] + 1u;
+        if (is_needed(later, log + used))
+            places[count++] = (uint16_t)used;
+    }
+    return count;
+}
+
+/* The bytes of the records that stay, which come to stand at the beginning: the oldest moves first, so that none is
+ * written over before it has moved. */
+static size_t move_up(uint8_t *log, const uint16_t *places, size_t count)
+{
+    size_t end = 0;
+    while (count > 0) {
+        const uint8_t *record = log + places[--count];
+        size_t n = lengths[record[0] & 0x3F] + 1u;
+        memmove(log + end, record, n);
+        end += n;
+    }
+    return end;
+}
+
+nx584_written nx584_make_room(uint8_t *log, size_t log_len, size_t used)
+{
+    nx584_written w = {0};
+    uint16_t places[STAY_MOST];
+    if (is_beyond(log_len, used))
+        w.number = 16;
+    else if (!log_is_sound(log, used))
+        w.number = 17;
+    if (w.number != 0)
+        return w;
+    size_t count = find_needed(log, used, places);
+    w.length = used - move_up(log, places, count);
+    return w;
+}

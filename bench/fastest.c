@@ -1075,130 +1075,167 @@ nx584_sending nx584_told(nx584_slot *slots, size_t slots_len, const uint8_t *mes
     return says(0, 0);
 }
 
-/* ---- the station log (document 02, No. 6): good records one after another, and nothing else. A record's length
- * stands at its end, and its number at its beginning says it too, so that records are walked from both ends. */
+/* ---- the station log (document 02, No. 6): good records one after another, and nothing else. A walk goes back from
+ * trailer to trailer and waits for each of them, so a long log is walked in four parts at once. */
 
-/* Of each number that is kept: the bytes of a record, the most that its second byte may be, and how many zones it
- * is about from that one on. All other numbers have length 0. */
+/* The subjects of records: of an 04h its zone, of an 05h its first zone, of an 06h its partition. All records of 07h
+ * are about one thing, and all of 08h, but each second byte has a subject there too while a log is walked, so that the
+ * numbers need not be told apart. */
+enum { ZONES_AT = 256, PARTITIONS_AT = 512, ALL_AT = 520, SYSTEM_AT = ALL_AT + 256, SUBJECTS = SYSTEM_AT + 256 };
+
+/* Of a type byte whose number is kept: the record's first two bytes as a number, the second at its most, with the
+ * record's length added; where its subjects begin; that length; how many zones it is about, the second byte's first.
+ * All others have 0. */
 static const struct kept {
-    _Alignas(4) uint8_t length;
-    uint8_t most, zones;
-} kept[128] = {
-    [0x04] = {9, 255, 1}, [0x05] = {11, 240, 16}, [0x06] = {10, 7, 0}, [0x07] = {10, 255, 0}, [0x08] = {13, 255, 0},
+    _Alignas(8) uint16_t most;
+    uint16_t subjects;
+    uint8_t length, zones;
+} kept[256] = {
+#define KEPT(type, length, second, zones, subjects) \
+    [type] = {(second) << 8 | ((type) + (length)), subjects, length, zones}
+#define BOTH(number, ...) KEPT(number, __VA_ARGS__), KEPT((number) | 0x80, __VA_ARGS__)
+    BOTH(0x04, 9, 255, 1, 0),
+    BOTH(0x05, 11, 240, 16, ZONES_AT),
+    BOTH(0x06, 10, 7, 0, PARTITIONS_AT),
+    BOTH(0x07, 10, 255, 0, ALL_AT),
+    BOTH(0x08, 13, 255, 0, SYSTEM_AT),
 };
 
-/* The length of the good record that ends at end and begins no earlier than begin, or 0. */
-ALWAYS size_t last_record(const uint8_t *begin, const uint8_t *end)
-{
-    size_t n = end[-1] + 1u;
-    if (n > (size_t)(end - begin))
-        return 0;
-    const uint8_t *m = end - n;
-    struct kept k = kept[m[0] & 0x7F];
-    return k.length == n && m[1] <= k.most ? n : 0;
-}
-
-/* The length of the good record that begins at begin and ends no later than end, or 0. */
-ALWAYS size_t first_record(const uint8_t *begin, const uint8_t *end)
-{
-    struct kept k = kept[begin[0] & 0x7F];
-    size_t n = k.length;
-    if (n - 1 >= (size_t)(end - begin))
-        return 0;
-    return begin[n - 1] == n - 1 && begin[1] <= k.most ? n : 0;
-}
-
+enum { PARTS = 4, RECORD_LEAST = 9, RECORD_MOST = 13, FARTHEST = 256 }; /* no trailer leads back farther */
 enum { NO_ZONE = -1 };
 
-ALWAYS int is_about(const uint8_t *m, int zone)
-{
-    return zone != NO_ZONE && (unsigned)zone - m[1] < kept[m[0] & 0x7F].zones;
-}
-
-/* What is left of a part of a log; and the newest record about the zone of those that were walked from the part's
- * beginning, and of those from its end. */
+/* What a walk looks for in a log: the newest record about a zone, or the newest of each subject, by the place of its
+ * trailer, which is never 0. NO_ZONE and NULL: neither. */
 typedef struct {
-    const uint8_t *begin, *end, *early, *late;
-} walk;
+    const uint8_t *log;
+    int zone;
+    uint16_t *newest;
+} wanted;
 
-/* A record from the end, and one from the beginning; 0 where one of them is not good, or none is left for it. The
- * second look is at a byte of the log even then: the first one's first. */
-ALWAYS int step(walk *w, int zone)
+/* What is left of a part of a log, and the newest record about the zone in what was walked of it. */
+typedef struct {
+    const uint8_t *begin, *end, *found;
+} part;
+
+ALWAYS uint32_t load_pair(const uint8_t *p)
 {
-    size_t n = last_record(w->begin, w->end);
-    if (n == 0)
-        return 0;
-    w->end -= n;
-    if (!w->late && is_about(w->end, zone))
-        w->late = w->end;
-    n = first_record(w->begin, w->end);
-    if (n == 0)
-        return 0;
-    if (is_about(w->begin, zone))
-        w->early = w->begin;
-    w->begin += n;
-    return 1;
+    uint16_t pair;
+    memcpy(&pair, p, 2);
+    return pair;
 }
 
-/* Whether the two ways meet, and all between was good. */
-ALWAYS int meets(walk *w, int zone)
+/* A step's answer has none of these bits where the record is good, and one of them where it is not. */
+static const uint32_t NOT_GOOD = 0x800000FF;
+
+/* Back over the last record of a part, which begins within the log. What its type byte asks for less what it has: of a
+ * good one that leaves how far its second byte is below the most, in bits 8 to 15. */
+ALWAYS uint32_t step(part *p, const wanted *w)
 {
-    while (w->begin < w->end)
-        if (!step(w, zone))
-            break;
-    return w->begin == w->end;
+    uint32_t length = p->end[-1] + 1u, place = (uint32_t)(p->end - (w->log + 1));
+    const uint8_t *record = p->end - length;
+    uint32_t pair = load_pair(record), second = pair >> 8;
+    const struct kept *k = &kept[pair & 0xFF];
+    if (w->newest) {
+        uint16_t *newest = w->newest + k->subjects + second;
+        *newest = (uint16_t)(*newest > place ? *newest : place);
+    }
+    if (w->zone != NO_ZONE && !p->found && (uint32_t)w->zone - second < k->zones)
+        p->found = record;
+    p->end = record;
+    return k->most - pair - length;
 }
 
-ALWAYS const uint8_t *newest_of(const walk *w)
+/* Whether a part is good records and nothing else. */
+ALWAYS int walk_part(part *p, const wanted *w)
 {
-    return w->late ? w->late : w->early;
-}
-
-/* Whether four good records follow one another: where a record begins they do, and elsewhere hardly ever. */
-ALWAYS int seems_record(const uint8_t *at, const uint8_t *end)
-{
-    for (int k = 0; k < 4; k++) {
-        size_t n = first_record(at, end);
-        if (n == 0)
+    while (p->begin < p->end)
+        if (p->end[-1] >= p->end - p->begin || (step(p, w) & NOT_GOOD))
             return 0;
-        at += n;
-    }
     return 1;
 }
 
-/* Where a record seems to begin behind the middle of a log; its beginning where none does, or the log is short. */
-static const uint8_t *near_middle(const uint8_t *log, size_t used)
+/* How many steps every part has left, as long as they are over good records; a last one over any other record stays
+ * within the log too. */
+ALWAYS size_t steps_left(const part *parts)
 {
-    const uint8_t *half = log + used / 2;
-    for (int k = 0; used >= 256 && k < 13; k++)
-        if (seems_record(half + k, log + used))
-            return half + k;
-    return log;
-}
-
-/* Two parts at once: four ways that do not wait for each other. */
-ALWAYS int both_meet(walk *older, walk *newer, int zone)
-{
-    while (older->begin < older->end && newer->begin < newer->end)
-        if (!step(older, zone) || !step(newer, zone))
-            break;
-    return meets(older, zone) && meets(newer, zone);
-}
-
-/* Whether a log is sound; found is its newest record about the zone, or NULL. Where no record begins at the middle,
- * the two parts say nothing of the whole. */
-ALWAYS int walk_log(const uint8_t *log, size_t used, int zone, const uint8_t **found)
-{
-    const uint8_t *middle = near_middle(log, used), *end = log + used;
-    walk older = {log, middle, NULL, NULL}, newer = {middle, end, NULL, NULL}, whole = {log, end, NULL, NULL};
-    if (both_meet(&older, &newer, zone)) {
-        *found = newest_of(&newer) ? newest_of(&newer) : newest_of(&older);
-        return 1;
+    size_t least = (size_t)(parts[0].end - parts[0].begin);
+    least = least > FARTHEST ? least - FARTHEST : 0;
+    for (int k = 1; k < PARTS; k++) {
+        size_t left = (size_t)(parts[k].end - parts[k].begin);
+        least = left < least ? left : least;
     }
-    if (middle == log || !meets(&whole, zone))
+    return least / RECORD_MOST;
+}
+
+ALWAYS int walk_parts(part *parts, const wanted *w)
+{
+    for (size_t steps; (steps = steps_left(parts)) != 0;)
+        for (; steps != 0; steps--) {
+            uint32_t any = 0;
+            for (int k = 0; k < PARTS; k++)
+                any |= step(&parts[k], w);
+            if (any & NOT_GOOD)
+                return 0;
+        }
+    for (int k = 0; k < PARTS; k++)
+        if (!walk_part(&parts[k], w))
+            return 0;
+    return 1;
+}
+
+/* Whether four good records stand before a place: where a record ends they do, and elsewhere hardly ever. */
+ALWAYS int seems_end(const uint8_t *log, const uint8_t *end)
+{
+    const wanted nothing = {log, NO_ZONE, NULL};
+    part p = {log, end, NULL};
+    for (int k = 0; k < 4; k++)
+        if (p.end - log < FARTHEST || (step(&p, &nothing) & NOT_GOOD))
+            return 0;
+    return 1;
+}
+
+/* Parts that seem to end where records do. The first is longer than the others by the bytes that it walks alone. 0: the
+ * log is short, or no record seems to end where a part should. */
+static int divide(part *parts, const uint8_t *log, size_t used)
+{
+    const uint8_t *begin = log, *end = log + used;
+    if (used < PARTS * FARTHEST)
         return 0;
-    *found = newest_of(&whole);
+    for (size_t k = 1; k < PARTS; k++) {
+        const uint8_t *stop = end - (used - FARTHEST) / PARTS * (PARTS - k), *beyond = stop + RECORD_MOST;
+        while (stop < beyond && !seems_end(log, stop))
+            stop++;
+        if (stop == beyond)
+            return 0;
+        parts[k - 1] = (part){begin, stop, NULL};
+        begin = stop;
+    }
+    parts[PARTS - 1] = (part){begin, end, NULL};
     return 1;
+}
+
+/* Whether a log is sound; found is its newest record about the zone, or NULL. Where a part ends within a record, the
+ * parts say nothing of the whole. A step looks at two bytes of a record, which the last one has if it is long enough. */
+ALWAYS int walk_log(size_t used, const wanted *w, const uint8_t **found)
+{
+    *found = NULL;
+    if (used == 0)
+        return 1;
+    if (w->log[used - 1] + 1 < RECORD_LEAST)
+        return 0;
+    part parts[PARTS], whole = {w->log, w->log + used, NULL};
+    if (divide(parts, w->log, used)) {
+        if (walk_parts(parts, w)) {
+            for (int k = 0; k < PARTS; k++)
+                *found = parts[k].found ? parts[k].found : *found;
+            return 1;
+        }
+        if (w->newest)
+            memset(w->newest, 0, SUBJECTS * sizeof *w->newest);
+    }
+    int is_good = walk_part(&whole, w);
+    *found = whole.found;
+    return is_good;
 }
 
 /* How many bytes of a buffer a log may use. */
@@ -1207,26 +1244,33 @@ ALWAYS size_t log_most(size_t log_len)
     return log_len < NX584_LOG_MOST ? log_len : NX584_LOG_MOST;
 }
 
+/* Eight to sixteen bytes. */
+ALWAYS void put_bytes(uint8_t *to, const uint8_t *from, size_t n)
+{
+    uint64_t head = load(from), tail = load(from + n - 8);
+    memcpy(to, &head, 8);
+    memcpy(to + n - 8, &tail, 8);
+}
+
 nx584_written nx584_keep(uint8_t *log, size_t log_len, size_t used, const uint8_t *message,
                          size_t message_len)
 {
+    const wanted nothing = {log, NO_ZONE, NULL};
     nx584_written w = {0};
     const uint8_t *found;
     if (used > log_most(log_len))
         w.number = 16;
-    else if (used > 0 && !walk_log(log, used, NO_ZONE, &found))
+    else if (!walk_log(used, &nothing, &found))
         w.number = 17;
     else
         w.number = refusal_of(message, message_len);
-    if (w.number == 0 && kept[message[0] & 0x7F].length == 0)
+    if (w.number == 0 && kept[message[0]].length == 0)
         w.number = 18;
     if (w.number == 0 && message_len >= log_most(log_len) - used)
         w.number = 9;
     if (w.number != 0)
         return w;
-    uint64_t head = load(message), tail = load(message + message_len - 8); /* 8 is the least of the five lengths */
-    memcpy(log + used, &head, 8);
-    memcpy(log + used + message_len - 8, &tail, 8);
+    put_bytes(log + used, message, message_len);
     log[used + message_len] = (uint8_t)message_len;
     w.length = message_len + 1;
     return w;
@@ -1234,15 +1278,148 @@ nx584_written nx584_keep(uint8_t *log, size_t log_len, size_t used, const uint8_
 
 nx584_found nx584_newest(const uint8_t *log, size_t log_len, size_t used, uint8_t zone)
 {
+    const wanted about = {log, zone, NULL};
     nx584_found f = {0};
     const uint8_t *record = NULL;
     if (used > log_most(log_len)) {
         f.number = 16;
-    } else if (used > 0 && !walk_log(log, used, zone, &record)) {
+    } else if (!walk_log(used, &about, &record)) {
         f.number = 17;
     } else if (record) {
         f.at = (size_t)(record - log);
-        f.length = kept[record[0] & 0x7F].length;
+        f.length = kept[record[0]].length;
     }
     return f;
+}
+
+/* ---- making room (document 02, No. 7): of a subject no record stays but the newest, and that one does unless it is an
+ * 05h and the newest about none of its zones. So a walk in any order finds all that may stay. What has arrays of its
+ * own is not put into the call, whose stack would be above NX584_STACK_MOST. */
+
+/* When all records of 07h have one subject, and all of 08h, what was theirs takes the places of all that stays. */
+enum { ALL_SUBJECT = ALL_AT, SYSTEM_SUBJECT, SUBJECTS_LEFT, STAY_MOST = 256 + 241 + 8 + 1 + 1 };
+_Static_assert(SUBJECTS - SUBJECTS_LEFT >= STAY_MOST, "places behind the subjects");
+
+ALWAYS void bring_together(uint16_t *newest)
+{
+    uint16_t all = 0, system = 0;
+    for (int k = 0; k < 256; k++) {
+        all = newest[ALL_AT + k] > all ? newest[ALL_AT + k] : all;
+        system = newest[SYSTEM_AT + k] > system ? newest[SYSTEM_AT + k] : system;
+    }
+    newest[ALL_SUBJECT] = all;
+    newest[SYSTEM_SUBJECT] = system;
+}
+
+ALWAYS pairs load_pairs(const uint16_t *p)
+{
+    pairs v;
+    memcpy(&v, p, 16);
+    return v;
+}
+
+/* Each becomes the largest or the smallest of the sixteen that begin with it: of two, of four, of eight, of sixteen. */
+ALWAYS void of_sixteen(uint16_t *v, int count, int largest)
+{
+    for (int by = 1; by < 16; by *= 2)
+        for (int k = 0; k < count; k += 8) {
+            pairs a = load_pairs(v + k), b = load_pairs(v + k + by);
+            pairs is_a = largest ? (pairs)(a > b) : (pairs)(a < b);
+            a = (a & is_a) | (b & ~is_a);
+            memcpy(v + k, &a, 16);
+        }
+}
+
+/* The newest record about a zone is its 04h, or the newest 05h whose first zone is this one or up to fifteen before it.
+ * Of those about an 05h's sixteen zones the oldest is that 05h itself, or it goes. */
+static __attribute__((noinline)) void drop_covered(uint16_t *newest)
+{
+    uint16_t about[256 + 32] = {0}, *zones = newest + ZONES_AT;
+    memcpy(about + 15, zones, 256 * sizeof *zones);
+    of_sixteen(about, 256 + 16, 1);
+    for (int k = 0; k < 256; k++)
+        about[k] = about[k] > newest[k] ? about[k] : newest[k];
+    of_sixteen(about, 256, 0);
+    for (int k = 0; k < 256; k++)
+        zones[k] = about[k] == zones[k] ? zones[k] : 0;
+}
+
+ALWAYS size_t bytes_of(const uint16_t *newest, int count, uint8_t number)
+{
+    uint16_t records = 0;
+    for (int k = 0; k < count; k++)
+        records += newest[k] != 0;
+    return (size_t)records * kept[number].length;
+}
+
+ALWAYS size_t bytes_left(const uint16_t *newest)
+{
+    return bytes_of(newest, 256, 0x04) + bytes_of(newest + ZONES_AT, 256, 0x05) +
+           bytes_of(newest + PARTITIONS_AT, 8, 0x06) + bytes_of(newest + ALL_SUBJECT, 1, 0x07) +
+           bytes_of(newest + SYSTEM_SUBJECT, 1, 0x08);
+}
+
+enum { WORD = 64, LOG_WORDS = NX584_LOG_MOST / 8 / WORD }; /* a bit for each eight bytes */
+
+ALWAYS uint64_t bit_of(uint16_t place)
+{
+    return 1ull << place / 8 % WORD;
+}
+
+/* The places of the trailers that stay, in their order, and how many they are. No two trailers stand in the same eight
+ * bytes, so that a trailer has as many before it as its bit has. */
+static __attribute__((noinline)) size_t put_in_order(uint16_t *places, const uint16_t *newest)
+{
+    uint64_t bits[LOG_WORDS] = {0};
+    uint16_t before[LOG_WORDS];
+    size_t count = 0;
+    for (int k = 0; k < SUBJECTS_LEFT; k++)
+        if (newest[k])
+            bits[newest[k] / 8 / WORD] |= bit_of(newest[k]);
+    for (int k = 0; k < LOG_WORDS; k++) {
+        before[k] = (uint16_t)count;
+        count += (size_t)__builtin_popcountll(bits[k]);
+    }
+    for (int k = 0; k < SUBJECTS_LEFT; k++)
+        if (newest[k]) {
+            unsigned word = newest[k] / 8 / WORD;
+            places[before[word] + __builtin_popcountll(bits[word] & (bit_of(newest[k]) - 1))] = newest[k];
+        }
+    return count;
+}
+
+/* The records with these trailers to the beginning; the log's last is one of them. For all others sixteen bytes are
+ * moved: up to the first record that goes they stand there already, and behind it those too many come before all that
+ * is still to be moved, and the next record over them. */
+static void move_up(uint8_t *log, const uint16_t *places, size_t count)
+{
+    const uint16_t *last = places + count - 1;
+    uint8_t *to = log;
+    for (; places < last; places++) {
+        size_t n = log[*places];
+        bytes16 record = load_vector(log + *places - n);
+        memcpy(to, &record, 16);
+        to += n + 1;
+    }
+    put_bytes(to, log + *last - log[*last], log[*last] + 1u);
+}
+
+nx584_written nx584_make_room(uint8_t *log, size_t log_len, size_t used)
+{
+    nx584_written w = {0};
+    uint16_t newest[SUBJECTS] = {0}, *places = newest + SUBJECTS_LEFT;
+    const wanted all = {log, NO_ZONE, newest};
+    const uint8_t *found;
+    if (used > log_most(log_len)) {
+        w.number = 16;
+    } else if (!walk_log(used, &all, &found)) {
+        w.number = 17;
+    } else {
+        bring_together(newest);
+        drop_covered(newest);
+        w.length = used - bytes_left(newest);
+        if (w.length != 0)
+            move_up(log, places, put_in_order(places, newest));
+    }
+    return w;
 }

@@ -1,6 +1,8 @@
 /* The loops that the bench measures: the calls of nx584.h as a host makes them. */
 #include "loops.h"
 
+#include <string.h>
+
 static uint64_t mix(uint64_t sum, uint64_t answer)
 {
     return (sum ^ answer) * 0x9E3779B97F4A7C15u;
@@ -159,6 +161,21 @@ uint64_t loop_newest(const station_log *logs, size_t count, uint8_t zone)
     for (size_t k = 0; k < count; k++) {
         nx584_found f = nx584_newest(logs[k].bytes, logs[k].length, logs[k].used, zone);
         sum = mix(sum, f.at << 16 | f.length << 8 | f.number);
+    }
+    return sum;
+}
+
+uint64_t loop_make_room(const station_log *logs, size_t count)
+{
+    uint64_t sum = 0;
+    for (size_t k = 0; k < count; k++) {
+        uint8_t *log = logs[k].bytes;
+        nx584_written w = nx584_make_room(log, logs[k].length, logs[k].used);
+        size_t left = logs[k].used - w.length;
+        sum = mix(sum, w.length << 16 | (uint64_t)w.number << 8 | log[0]);
+        sum = mix(sum, log[left / 2] << 16 | log[left - 2] << 8 | log[left - 1]);
+        if (w.length != 0)
+            memcpy(log, logs[k].again, left);
     }
     return sum;
 }

@@ -26,15 +26,20 @@ uint64_t loop_take(nx584_slot *slots, const messages *list);
 uint64_t loop_tick(nx584_slot *slots, size_t times);
 uint64_t loop_told(nx584_slot *slots, const messages *list);
 
-/* A log: its buffer, and how much of it is used. */
+/* A log: its buffer, how much of it is used, and the same bytes again. */
 typedef struct {
     uint8_t *bytes;
     size_t length, used;
+    const uint8_t *again;
 } station_log;
 
 /* A message is kept in each log, and over it the next time, since `used` stays; each is asked for the zone. */
 uint64_t loop_keep(const station_log *logs, const messages *list);
 uint64_t loop_newest(const station_log *logs, size_t count, uint8_t zone);
+
+/* Room is made in each log. Where some was won, the bytes that were written are put back, and that counts too:
+ * they are the records that stay, at most a twelfth of a full log. */
+uint64_t loop_make_room(const station_log *logs, size_t count);
 size_t reader_bytes(void);
 
 #endif

@@ -3,7 +3,7 @@
 
 use std::slice;
 
-const VERSION: u32 = 5;
+const VERSION: u32 = 6;
 const LONGEST: usize = 255;
 /// Of the 41 messages, and so of what is written and handed out.
 const LONGEST_GOOD: usize = 18;
@@ -62,6 +62,15 @@ pub struct Reading {
 pub struct Written {
     number: u8,
     length: usize,
+}
+
+impl From<Result<usize, u8>> for Written {
+    fn from(answer: Result<usize, u8>) -> Written {
+        match answer {
+            Ok(length) => Written { number: 0, length },
+            Err(number) => Written { number, length: 0 },
+        }
+    }
 }
 
 #[repr(C)]
@@ -764,6 +773,61 @@ fn newest(log: &[u8], used: usize, zone: u8) -> Result<(usize, usize), u8> {
     Ok(found.unwrap_or((0, 0)))
 }
 
+// ---- making room: the marks of a table's zones, partitions and system. A bit of a mark has its own bytes of
+// the table, which every message writes that sets it, and no other does: so a record goes where later ones
+// set all its bits.
+
+const PARTITION_MARKS: usize = 256;
+const SYSTEM_MARK: usize = 264;
+const MARKS: usize = 265;
+/// Of 04h to 08h.
+const STAY_MOST: usize = 256 + 256 + 8 + 1 + 1;
+
+/// Whether one of the marks has not all of the bits; then they all have.
+fn set_marks(marks: &mut [u8], bits: u8) -> bool {
+    let mut is_new = false;
+    for mark in marks {
+        is_new |= *mark & bits != bits;
+        *mark |= bits;
+    }
+    is_new
+}
+
+/// Whether a record sets a bit that no later one does.
+fn is_needed(later: &mut [u8; MARKS], message: &[u8]) -> bool {
+    let (zones, others) = later.split_at_mut(PARTITION_MARKS);
+    let (partitions, system) = others.split_at_mut(SYSTEM_MARK - PARTITION_MARKS);
+    let at = usize::from(message[1]);
+    match message[0] & 0x3F {
+        0x04 => set_marks(&mut zones[at..at + 1], 3),
+        0x05 => set_marks(&mut zones[at..at + 16], 1),
+        0x06 => set_marks(&mut partitions[at..at + 1], 2),
+        0x07 => set_marks(partitions, 1),
+        _ => set_marks(system, 1),
+    }
+}
+
+/// How many bytes are won.
+fn make_room(log: &mut [u8], used: usize) -> Result<usize, u8> {
+    let mut later = [0; MARKS];
+    let mut places = [0; STAY_MOST];
+    let mut count = 0;
+    walk(used_part(log, used)?, |at, message| {
+        if is_needed(&mut later, message) {
+            places[count] = at as u16;
+            count += 1;
+        }
+    })?;
+    let mut end = 0;
+    for &place in places[..count].iter().rev() {
+        let at = usize::from(place);
+        let n = length_of(log[at]) + 1;
+        log.copy_within(at..at + n, end);
+        end += n;
+    }
+    Ok(used - end)
+}
+
 // ---- what C calls
 
 /// The bytes that C lends; NULL comes with length 0.
@@ -816,10 +880,7 @@ pub unsafe extern "C" fn nx584_write(
     out_length: usize,
     place: usize,
 ) -> Written {
-    match write(lent(message, message_length), framing, lent_mut(out, out_length), place) {
-        Ok(length) => Written { number: 0, length },
-        Err(number) => Written { number, length: 0 },
-    }
+    write(lent(message, message_length), framing, lent_mut(out, out_length), place).into()
 }
 
 #[no_mangle]
@@ -926,10 +987,7 @@ pub unsafe extern "C" fn nx584_keep(
     message: *const u8,
     message_length: usize,
 ) -> Written {
-    match keep(lent_mut(log, log_length), used, lent(message, message_length)) {
-        Ok(length) => Written { number: 0, length },
-        Err(number) => Written { number, length: 0 },
-    }
+    keep(lent_mut(log, log_length), used, lent(message, message_length)).into()
 }
 
 /// # Safety
@@ -940,4 +998,11 @@ pub unsafe extern "C" fn nx584_newest(log: *const u8, log_length: usize, used: u
         Ok((at, length)) => Found { number: 0, at, length },
         Err(number) => Found { number, at: 0, length: 0 },
     }
+}
+
+/// # Safety
+/// As nx584.h says: pointers are valid for their lengths.
+#[no_mangle]
+pub unsafe extern "C" fn nx584_make_room(log: *mut u8, log_length: usize, used: usize) -> Written {
+    make_room(lent_mut(log, log_length), used).into()
 }

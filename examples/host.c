@@ -23,7 +23,8 @@ static const char usage[] =
     "  --wait MS        between two tries to open a line that went away (1000)\n"
     "  --table FILE     write the table there at the end\n"
     "  --log FILE       write the log there at the end: the messages 04 to 08 that were heard, oldest first, each\n"
-    "                   followed by one byte that holds its length; 65536 bytes at most\n"
+    "                   followed by one byte that holds its length; 65536 bytes at most. When it is full, those\n"
+    "                   are dropped that later ones have overwritten whole in the table\n"
     "  --commands FILE  send the commands of FILE, up to its end: in each line one message in hexadecimal, as\n"
     "                   3F 09 for a bypass of zone 10. A FIFO does, and /dev/fd/3 is descriptor 3\n"
     "  --tick MS        between two ticks (500): a command is sent again after six without an answer\n"
@@ -52,7 +53,6 @@ struct unit {
     uint8_t table[NX584_TABLE_BYTES];
     uint8_t log[NX584_LOG_MOST];
     size_t log_used;
-    int is_log_full;
     nx584_slot slots[NX584_SLOTS];
     unsigned long lines[NX584_SLOTS]; /* of each command that waits, the number of its line */
     int tick;                         /* milliseconds */
@@ -293,16 +293,22 @@ static void tick_in_time(struct unit *u) {
 
 /* ---- the log */
 
-/* Of every good message: one that a log does not keep is refused with 18, and nobody needs to know. The first that
- * has no room ends it, though a shorter one might have some: a log has no gaps. */
+/* It is said, as whoever reads the log has to know: what was heard before and overwritten since is gone. */
+static void make_room(struct unit *u) {
+    nx584_written won = nx584_make_room(u->log, sizeof u->log, u->log_used);
+    u->log_used -= won.length;
+    fprintf(stderr, "host: made room in the log: %zu bytes\n", won.length);
+}
+
+/* Of every good message: one that a log does not keep is refused with 18, and nobody needs to know. The buffer is
+ * longer than NX584_LOG_ENOUGH, so that one which has no room has it when room was made. */
 static void keep(struct unit *u, const uint8_t *message, size_t length) {
-    if (u->is_log_full)
-        return;
     nx584_written w = nx584_keep(u->log, sizeof u->log, u->log_used, message, length);
+    if (w.number == NX584_NO_ROOM) {
+        make_room(u);
+        w = nx584_keep(u->log, sizeof u->log, u->log_used, message, length);
+    }
     u->log_used += w.length;
-    u->is_log_full = w.number == NX584_NO_ROOM;
-    if (u->is_log_full)
-        fprintf(stderr, "host: the log is full; nothing more is kept\n");
 }
 
 static void show_flags(uint8_t flags) {
@@ -319,22 +325,21 @@ static uint8_t flags_in(const uint8_t *message, size_t length, uint8_t zone) {
     return nx584_zone(table, sizeof table, zone).flags;
 }
 
-/* What was last heard about a zone. A log that nx584_keep alone has changed is not refused: this unit's memory would be
- * damaged, and that a zone was not heard must not be said then. */
+/* What was last heard about a zone. A log that keep and make_room alone have changed is not refused: this unit's memory
+ * would be damaged, and that a zone was not heard must not be said then. */
 static void show_newest(const struct unit *u, uint8_t zone) {
-    const char *until = u->is_log_full ? " before the log was full" : "";
     nx584_found f = nx584_newest(u->log, sizeof u->log, u->log_used, zone);
     if (f.number != 0) {
         fprintf(stderr, "host: zone %d: the log is not sound (%d)\n", zone + 1, f.number);
         return;
     }
     if (f.length == 0) {
-        fprintf(stderr, "host: zone %d was not heard%s\n", zone + 1, until);
+        fprintf(stderr, "host: zone %d was not heard\n", zone + 1);
         return;
     }
     const uint8_t *message = u->log + f.at;
     size_t length = f.length - 1; /* without the trailer */
-    fprintf(stderr, "host: zone %d was last heard%s in", zone + 1, until);
+    fprintf(stderr, "host: zone %d was last heard in", zone + 1);
     for (size_t k = 0; k < length; k++)
         fprintf(stderr, " %02X", message[k]);
     fprintf(stderr, ":");

@@ -91,3 +91,8 @@ void nx584_cross_newest(nx584_found *answer, const uint8_t *log, uint64_t log_le
 {
     *answer = nx584_newest(log, log_len, used, (uint8_t)zone);
 }
+
+void nx584_cross_make_room(nx584_written *answer, uint8_t *log, uint64_t log_len, uint64_t used)
+{
+    *answer = nx584_make_room(log, log_len, used);
+}

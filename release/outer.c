@@ -120,3 +120,10 @@ nx584_found nx584_newest(const uint8_t *log, size_t log_len, size_t used, uint8_
     nx584_cross_newest(&answer, log, log_len, used, zone);
     return answer;
 }
+
+nx584_written nx584_make_room(uint8_t *log, size_t log_len, size_t used)
+{
+    nx584_written answer;
+    nx584_cross_make_room(&answer, log, log_len, used);
+    return answer;
+}

@@ -3,18 +3,19 @@ use Prim.Native.Nat.{ℕ, _+_, _-_, _≤_, _<_}
 use native.Mathlib.Omega.{arith}
 use mathlib.Core.Path.{_≡_, refl, sym, ap, subst, _∙_}
 use mathlib.Core.Bool.{Bool, true, false, cond}
-use mathlib.Core.List.{List, _++_, append-assoc}
+use mathlib.Core.List.{List, [], _∷_, _++_, append-assoc}
 use lib.Dec.{eqb, ltb}
 use lib.ListN.{length, getD, take, drop, set, replicate, length-take, length-drop, length-replicate}
 use lib.ListN.{length-append, length-set, getD-replicate, List·getD-append}
-use lib.Seq.{drop-drop, length-take-le, getD-append-add, getD-take, getD-drop, getD-set-same, getD-set-other}
+use lib.Seq.{drop-drop, drop-cons, sets-eq, length-take-le, getD-append-add, getD-take, getD-drop, getD-set-same}
+use lib.Seq.{getD-set-other}
 use borrow.Author.Tests.{ne-eqb, eqb-true, eqb-false, ltb-true, ltb-false}
 use borrow.Rule.Slice.PartMut.{putMid}
 use Rattle.standard.specs.Words.{byte, laid}
 use Rattle.standard.specs.Messages.{numberOf, isStatus}
+use Rattle.standard.proofs.Messages.{or-false}
 use Rattle.standard.proofs.Status.{status-cases}
-use Rattle.log.specs.declared.Cells.{Cells}
-use Rattle.log.specs.Cells.{cellsMost, cellsOf, anyZero, isNew, noted}
+use Rattle.log.specs.Cells.{Cells, cellsMost, cellsOf, anyZero, isNew, noted}
 
 -- the cells of each number
 module _ (m : List ℕ) where
@@ -51,7 +52,7 @@ module _ (m : List ℕ) where
 -- ---- as `note` leaves them
 
 -- a part that was lent to `fill`, said of the whole
-pub part-filled : (l : List ℕ) (first count : ℕ) {after : List ℕ} → first + count ≤ length l
+part-filled : (l : List ℕ) (first count : ℕ) {after : List ℕ} → first + count ≤ length l
     → after ≡ replicate (length (take (first + count - first) (drop first l))) 1
     → putMid first (first + count - first) l after ≡ laid l first (replicate count 1)
 part-filled l first count {after} h e =
@@ -64,38 +65,64 @@ part-filled l first count {after} h e =
     (drop-drop count first l ∙ ap (λ (k : ℕ). drop (first + k) l) (sym (length-replicate count 1)))
     ∙ sym (append-assoc (take first l) (replicate count 1) (drop (first + length (replicate count 1)) l))
 
--- what `fill` was lent are a record's own cells
-module _ (cells m : List ℕ) (own : Cells) (is : own ≡ cellsOf m) where
-  pub told-new : {new : Bool} → new ≡ anyZero (take (own .first + own .count - own .first) (drop (own .first) cells))
-      → new ≡ isNew cells m
-  unfolding isNew
-  told-new {new} e =
-      let n : own .first + own .count - own .first ≡ own .count = omega arith in
-      e
-      ∙ ap (λ (k : ℕ). anyZero (take k (drop (own .first) cells))) n
-      ∙ ap (λ (c : Cells). anyZero (take (c .count) (drop (c .first) cells))) is
+-- what `note` says and leaves
+abbrev Noted : List ℕ → List ℕ → Bool → List ℕ → Type 0
+Noted cells m new after = (new ≡ isNew cells m) × (after ≡ noted cells m)
 
-  own-filled : {after : List ℕ} → own .first + own .count ≤ length cells
-      → after ≡ replicate (length (take (own .first + own .count - own .first) (drop (own .first) cells))) 1
-      → putMid (own .first) (own .first + own .count - own .first) cells after
-      ≡ laid cells (cellsOf m .first) (replicate (cellsOf m .count) 1)
-  own-filled h e =
-      part-filled cells (own .first) (own .count) h e
-      ∙ ap (λ (c : Cells). laid cells (c .first) (replicate (c .count) 1)) is
+module _ (cells m : List ℕ) (own : Cells) (is : cellsOf m ≡ own) {new : Bool} {after : List ℕ} where
+  -- of a message with these cells of its own, and 04h's short flags
+  as-04 : new ≡ anyZero (take (own .count) (drop (own .first) cells)) → numberOf (byte 1 m) ≡ 0x04
+      → after ≡ set (laid cells (own .first) (replicate (own .count) 1)) (256 + byte 2 m) 1 → Noted cells m new after
+  unfolding isNew noted
+  as-04 e n f = (
+    e ∙ ap (λ (c : Cells). anyZero (take (c .count) (drop (c .first) cells))) (sym is),
+    f
+        ∙ ap (λ (c : Cells). set (laid cells (c .first) (replicate (c .count) 1)) (256 + byte 2 m) 1) (sym is)
+        ∙ sym (rw n refl),
+  )
 
-  pub noted-04 : {after : List ℕ} → own .first + own .count ≤ length cells
-      → after ≡ replicate (length (take (own .first + own .count - own .first) (drop (own .first) cells))) 1
-      → numberOf (byte 1 m) ≡ 0x04
-      → set (putMid (own .first) (own .first + own .count - own .first) cells after) (256 + byte 2 m) 1 ≡ noted cells m
-  unfolding noted
-  noted-04 h e n = rw n (ap (λ (l : List ℕ). set l (256 + byte 2 m) 1) (own-filled h e))
+  as-other : new ≡ anyZero (take (own .count) (drop (own .first) cells)) → (numberOf (byte 1 m) ≡ 0x04 → ⊥)
+      → after ≡ laid cells (own .first) (replicate (own .count) 1) → Noted cells m new after
+  unfolding isNew noted
+  as-other e n f = (
+    e ∙ ap (λ (c : Cells). anyZero (take (c .count) (drop (c .first) cells))) (sym is),
+    f
+        ∙ ap (λ (c : Cells). laid cells (c .first) (replicate (c .count) 1)) (sym is)
+        ∙ sym (rw (ne-eqb (numberOf (byte 1 m)) 0x04 n) refl),
+  )
 
-  pub noted-other : {after : List ℕ} → own .first + own .count ≤ length cells
-      → after ≡ replicate (length (take (own .first + own .count - own .first) (drop (own .first) cells))) 1
-      → (numberOf (byte 1 m) ≡ 0x04 → ⊥)
-      → putMid (own .first) (own .first + own .count - own .first) cells after ≡ noted cells m
-  unfolding noted
-  noted-other h e n = rw (ne-eqb (numberOf (byte 1 m)) 0x04 n) (own-filled h e)
+-- one cell, as `mark` leaves it
+module _ (cells : List ℕ) (c : ℕ) (among : c < length cells) where
+  one-new : eqb (getD cells c 0) 0 ≡ anyZero (take 1 (drop c cells))
+  unfolding anyZero
+  one-new =
+      sym (ap (λ (l : List ℕ). anyZero (take 1 l)) (drop-cons cells c 0 among) ∙ or-false (eqb (getD cells c 0) 0))
+
+  one-laid : set cells c 1 ≡ laid cells c (replicate 1 1)
+  one-laid = sets-eq (1 ∷ []) cells c (omega arith)
+
+-- 04h, the others of one cell, and 05h
+module _ (cells m : List ℕ) {new : Bool} {after : List ℕ} where
+  pub marked-04 : numberOf (byte 1 m) ≡ 0x04 → byte 2 m < length cells → new ≡ eqb (getD cells (byte 2 m) 0) 0
+      → after ≡ set (set cells (byte 2 m) 1) (256 + byte 2 m) 1 → Noted cells m new after
+  marked-04 n among e f =
+      as-04 cells m (record { first = byte 2 m; count = 1 }) (cells-04 m n) (e ∙ one-new cells (byte 2 m) among) n
+      (f ∙ ap (λ (l : List ℕ). set l (256 + byte 2 m) 1) (one-laid cells (byte 2 m) among))
+
+  pub marked-one : (c : ℕ) → cellsOf m ≡ record { first = c; count = 1 } → (numberOf (byte 1 m) ≡ 0x04 → ⊥)
+      → c < length cells → new ≡ eqb (getD cells c 0) 0 → after ≡ set cells c 1 → Noted cells m new after
+  marked-one c is n among e f =
+      as-other cells m (record { first = c; count = 1 }) is (e ∙ one-new cells c among) n (f ∙ one-laid cells c among)
+
+  pub filled-05 : numberOf (byte 1 m) ≡ 0x05 → 256 + byte 2 m + 16 ≤ length cells → {part : List ℕ}
+      → new ≡ anyZero (take (256 + byte 2 m + 16 - (256 + byte 2 m)) (drop (256 + byte 2 m) cells))
+      → part ≡ replicate (length (take (256 + byte 2 m + 16 - (256 + byte 2 m)) (drop (256 + byte 2 m) cells))) 1
+      → after ≡ putMid (256 + byte 2 m) (256 + byte 2 m + 16 - (256 + byte 2 m)) cells part → Noted cells m new after
+  filled-05 n fit e p f =
+      let k : 256 + byte 2 m + 16 - (256 + byte 2 m) ≡ 16 = omega arith in
+      as-other cells m (record { first = 256 + byte 2 m; count = 16 }) (cells-05 m n)
+      (e ∙ ap (λ (j : ℕ). anyZero (take j (drop (256 + byte 2 m) cells))) k) (λ z. let w = sym n ∙ z in omega arith)
+      (f ∙ part-filled cells (256 + byte 2 m) 16 fit p)
 
 -- ---- cell by cell
 

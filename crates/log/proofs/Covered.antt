@@ -19,9 +19,8 @@ use Rattle.standard.proofs.Messages.{or-false, passed, passed-number}
 use Rattle.standard.proofs.Table.{or-assoc, Every, every-run, every-turn}
 use Rattle.standard.proofs.Status.{status-cases, status-is, status-length}
 use Rattle.standard.proofs.Applied.{zoneRun}
-use Rattle.log.specs.declared.Cells.{Cells}
 use Rattle.log.specs.Room.{messageWrites, allWrites, stored, marked, again, allAgain, needless}
-use Rattle.log.specs.Cells.{cellsMost, cellsOf}
+use Rattle.log.specs.Cells.{Cells, cellsMost, cellsOf}
 use Rattle.log.proofs.Rewritten.{again-alike, stored-append, again-left, again-right, turn-again, stored-run}
 use Rattle.log.proofs.Celled.{cells-04, cells-05, cells-06, cells-07, cells-08}
 

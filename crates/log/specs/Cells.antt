@@ -9,7 +9,6 @@ use lib.Dec.{eqb}
 use lib.ListN.{length, getD, take, drop, replicate, set}
 use Rattle.standard.specs.Words.{byte, laid}
 use Rattle.standard.specs.Messages.{numberOf}
-use Rattle.log.specs.declared.Cells.{Cells}
 use Rattle.log.specs.Log.{joined, recordsOf, sound}
 use Rattle.log.specs.Room.{needless}
 
@@ -18,7 +17,12 @@ use Rattle.log.specs.Room.{needless}
 abbrev pub cellsMost : ℕ
 cellsMost = 522
 
--- the cells of which a record needs one for itself, to stay
+-- some of them, one after another
+pub record Cells : Type 0 where
+  pub first : ℕ
+  pub count : ℕ
+
+-- those of which a record needs one for itself, to stay
 unfoldable pub cellsOf : List ℕ → Cells
 cellsOf m =
     cond (eqb (numberOf (byte 1 m)) 0x04) (record { first = byte 2 m; count = 1 })

@@ -6,14 +6,15 @@ ghost use mathlib.Core.Path.{_≡_};
 ghost use mathlib.Core.Bool.{true};
 ghost use mathlib.Core.List.{[]};
 ghost use Prim.Native.Nat.{_+_, _≤_, _<_};
-ghost use lib.ListN.{length, getD, take, drop, replicate};
+ghost use lib.Dec.{eqb};
+ghost use lib.ListN.{length, getD, take, drop, set, replicate};
 ghost use Rattle.standard.specs.Words.{byte, laid};
 ghost use Rattle.standard.specs.Messages.{isStatus};
 ghost use Rattle.standard.specs.Questions.{Answered};
 ghost use Rattle.log.specs.Log.{recordOf, sound, about, newestOf, beyond, logRefusal, foundOf, keepRefusal, Keeps};
 ghost use Rattle.log.specs.Places.{startOf, foundIn};
 ghost use Rattle.log.specs.Room.{MakesRoom};
-ghost use Rattle.log.specs.Cells.{cellsMost, cellsOf, anyZero, isNew, noted, recordAt, recordsAt, Apart, Walks};
+ghost use Rattle.log.specs.Cells.{cellsMost, anyZero, isNew, noted, recordAt, recordsAt, Apart, Walks};
 
 // "a lent buffer of at most 64 KiB"
 pub const LOG_MOST: usize = 65536;
@@ -196,12 +197,6 @@ pub fn keep(log: &mut [u8], used: usize, message: &[u8]) -> Written
 // all partitions' short bytes, and for the system. So no more records stay than there are cells.
 const CELLS: usize = 522;
 
-// Some cells, one after another.
-struct Cells {
-    first: usize,
-    count: usize,
-}
-
 // What a walk back through a log has decided: 0 and where the places of the records that stay begin,
 // or 17.
 struct Walked {
@@ -209,35 +204,15 @@ struct Walked {
     first: usize,
 }
 
-// The cells of which a record needs one for itself, to stay. 04h writes a zone's short flags too, but
-// who writes a zone's own bytes later writes those as well.
-fn cells_of(message: &[u8]) -> Cells
-    requires { ⌜ 2 ≤ length (now message) ⌝ }
-    ensures { λ r. ⌜ r ≡ cellsOf (now (message .entry)) ⌝ }
+// Writes a cell, and says whether it was not written yet.
+fn mark(cells: &mut [u8], cell: usize) -> bool
+    requires { ⌜ cell < length (now cells) ⌝ }
+    ensures { λ r. ⌜ r ≡ eqb (getD (now (cells .entry)) cell 0) 0 ⌝ }
+    ensures { λ _. ⌜ now (cells .exit) ≡ set (now (cells .entry)) cell 1 ⌝ }
 {
-    let on = message[1] as usize;
-    match message[0] % 64 {
-        0x04 => Cells {
-            first: on,
-            count: 1,
-        },
-        0x05 => Cells {
-            first: 256 + on,
-            count: 16,
-        },
-        0x06 => Cells {
-            first: 512 + on,
-            count: 1,
-        },
-        0x07 => Cells {
-            first: 520,
-            count: 1,
-        },
-        _ => Cells {
-            first: 521,
-            count: 1,
-        },
-    }
+    let is_new = cells[cell] == 0;
+    cells[cell] = 1;
+    is_new
 }
 
 // Writes some cells, and says whether one of them was not written yet.
@@ -258,22 +233,30 @@ fn fill(cells: &mut [u8]) -> bool
     is_new
 }
 
-// Notes what a record writes, and says whether it stays.
+// Notes what a record writes, and says whether it stays. 04h writes a zone's short flags too, but who
+// writes a zone's own bytes later writes those as well.
 fn note(cells: &mut [u8], message: &[u8]) -> bool
     requires { ⌜ length (now cells) ≡ cellsMost ⌝ }
     requires { ⌜ isStatus (now message) ≡ true ⌝ }
     ensures { λ r. ⌜ r ≡ isNew (now (cells .entry)) (now (message .entry)) ⌝ }
     ensures { λ _. ⌜ now (cells .exit) ≡ noted (now (cells .entry)) (now (message .entry)) ⌝ }
 {
-    let own = cells_of(message);
-    let first = own.first;
-    let end = first + own.count;
-    let is_new = fill(&mut cells[first..end]);
-    if message[0] % 64 == 0x04 {
-        let short = 256 + message[1] as usize;
-        cells[short] = 1;
+    let on = message[1] as usize;
+    match message[0] % 64 {
+        0x04 => {
+            let is_new = mark(cells, on);
+            cells[256 + on] = 1;
+            is_new
+        }
+        0x05 => {
+            let first = 256 + on;
+            let end = first + 16;
+            fill(&mut cells[first..end])
+        }
+        0x06 => mark(cells, 512 + on),
+        0x07 => mark(cells, 520),
+        _ => mark(cells, 521),
     }
-    is_new
 }
 
 // Walks back through a log, and puts the places of the trailers of those records that stay at the
