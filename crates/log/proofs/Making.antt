@@ -16,7 +16,8 @@ use Rattle.standard.specs.Table.{appliedTo, tableAfter}
 use Rattle.log.specs.Log.{logMost, recordOf, joined, allKept, recordsOf, fromNewest, firstRecord, newestOf}
 use Rattle.log.specs.Log.{beyond, logRefusal, keepRefusal}
 use Rattle.log.specs.Room.{keptOf, smaller, wonOf, afterRoom}
-use Rattle.log.specs.Runs.{Station, logIn, empty, keeping, making, keepingOn, keepingOnAll, oldestFirst, toldBy}
+use Rattle.log.specs.Runs.{Call, keeps, makes, calling, callingAll}
+use Rattle.log.specs.Runs.{Station, logIn, empty, keeping, making, keepingOn, oldestFirst, toldBy}
 use Rattle.log.proofs.Walking.{records-joined, joined-records}
 use Rattle.log.proofs.Backwards.{sound-records, records-sound}
 use Rattle.log.proofs.Refusing.{Inside, inside-not, Asked, asked, asked-none, keep-status, past}
@@ -229,30 +230,28 @@ made-room s m h room =
     let p = past (s .buffer) (s .used) m (rw h refl) in
     keep-after s m (p .log-asked) (p .kept) ∙ rw (inside-not (s .buffer) _ room) refl
 
+-- ---- A LOG THAT BEGAN EMPTY AND WAS CHANGED BY THE TWO CALLS ALONE, in whatever order
+
+calling-asked : (s : Station) (c : Call) → Asked (s .buffer) (s .used)
+    → Asked (calling s c .buffer) (calling s c .used)
+unfolding calling
+calling-asked s (keeps m) a = keeping-asked s m a
+calling-asked s makes a = made-asked s a
+
+pub calls-asked : (s : Station) (cs : List Call) → Asked (s .buffer) (s .used)
+    → Asked (callingAll s cs .buffer) (callingAll s cs .used)
+unfolding callingAll
+calls-asked s [] a = a
+calls-asked s (c ∷ cs) a = calls-asked (calling s c) cs (calling-asked s c a)
+
+-- IS NEVER REFUSED
+pub calls-never-refused : (buffer : List ℕ) (cs : List Call)
+    → let s = callingAll (empty buffer) cs in logRefusal (s .buffer) (s .used) ≡ 0
+calls-never-refused buffer cs =
+    let s = callingAll (empty buffer) cs in
+    asked-none (s .buffer) (s .used) (calls-asked (empty buffer) cs (empty-asked buffer))
+
 -- ---- A UNIT THAT MAKES ROOM WHERE `keep` SAYS 9
-
--- a call leaves a log that is not refused, and so do all
-pub on-asked : (s : Station) (m : List ℕ) → Asked (s .buffer) (s .used)
-    → Asked (keepingOn s m .buffer) (keepingOn s m .used)
-unfolding keepingOn
-on-asked s m a = go (eqb (keepRefusal (s .buffer) (s .used) m) 9)
-  where
-    go : (t : Bool) → let u = cond t (keeping (making s) m) (keeping s m) in Asked (u .buffer) (u .used)
-    go true = keeping-asked (making s) m (made-asked s a)
-    go false = keeping-asked s m a
-
-pub on-all-asked : (s : Station) (ms : List (List ℕ)) → Asked (s .buffer) (s .used)
-    → Asked (keepingOnAll s ms .buffer) (keepingOnAll s ms .used)
-unfolding keepingOnAll
-on-all-asked s [] a = a
-on-all-asked s (m ∷ ms) a = on-all-asked (keepingOn s m) ms (on-asked s m a)
-
--- so a log that began empty is never refused
-pub on-never-refused : (buffer : List ℕ) (ms : List (List ℕ))
-    → let s = keepingOnAll (empty buffer) ms in logRefusal (s .buffer) (s .used) ≡ 0
-on-never-refused buffer ms =
-    let s = keepingOnAll (empty buffer) ms in
-    asked-none (s .buffer) (s .used) (on-all-asked (empty buffer) ms (empty-asked buffer))
 
 -- it tells a table what it told before and then the message, as long as room can be won for it
 pub on-told : (t : List ℕ) (s : Station) (m : List ℕ) → Asked (s .buffer) (s .used)

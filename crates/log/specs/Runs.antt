@@ -49,6 +49,19 @@ making s = record {
   used = s .used - wonOf (s .buffer) (s .used) .length;
 }
 
+-- calls of either, in whatever order
+pub data Call : Type 0 where
+  keeps : List ℕ → Call
+  makes : Call
+
+unfoldable pub calling : Station → Call → Station
+calling s (keeps m) = keeping s m
+calling s makes = making s
+
+unfoldable pub callingAll : Station → List Call → Station
+callingAll s [] = s
+callingAll s (c ∷ cs) = callingAll (calling s c) cs
+
 -- a unit that makes room where `keep` says 9, and then keeps
 unfoldable pub keepingOn : Station → List ℕ → Station
 keepingOn s m = cond (eqb (keepRefusal (s .buffer) (s .used) m) 9) (keeping (making s) m) (keeping s m)

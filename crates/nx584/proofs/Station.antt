@@ -12,13 +12,13 @@ use denote.Ref.{now}
 use denote.Triple.Clauses.{AtExit}
 use Rattle.standard.specs.Messages.{among}
 use Rattle.log.specs.declared.Found.{Found}
-use Rattle.log.specs.Log.{newestOf, logRefusal, keepRefusal, addedOf}
+use Rattle.log.specs.Log.{newestOf, logRefusal, addedOf}
 use Rattle.log.specs.Room.{wonOf}
-use Rattle.log.specs.Runs.{Station, empty, keeping, keepingAll, making, keepingOnAll}
+use Rattle.log.specs.Runs.{Station, empty, keeping, keepingAll, making, Call, callingAll}
 use Rattle.log.proofs.Refusing.{Asked, asked-none, log-numbers, ofTheKept, ofAny, all-numbers}
 use Rattle.log.proofs.Finding.{handed}
 use Rattle.log.proofs.Keeping.{keep-numbers, keeping-asked, all-asked, empty-asked}
-use Rattle.log.proofs.Making.{won-less, made-beyond, made-asked, on-all-asked}
+use Rattle.log.proofs.Making.{won-less, made-beyond, made-asked, calls-asked}
 use Rattle.log.proofs.Newer.{none-at-0}
 use Rattle.nx584.specs.declared.CWritten.{CWritten}
 use Rattle.nx584.specs.declared.CFound.{CFound}
@@ -71,12 +71,12 @@ module _ (κs : Lfts 2) (a : Dens κs keep-kinds.ps) (e : AtExit (endedOf 2 keep
   c-kept-alone buffer ms s =
       c-kept-asked (subst AskedIn (sym s) (all-asked (empty buffer) ms (empty-asked buffer))) .0
 
-  -- nor does one that made room where this call said 9
-  pub c-on-kept : (buffer : List ℕ) (ms : List (List ℕ))
-      → _≡_ {A = Station} (record { buffer = now (a .0); used = a .1 .0 }) (keepingOnAll (empty buffer) ms)
+  -- nor does one that made room in between, in whatever order
+  pub c-calls-kept : (buffer : List ℕ) (cs : List Call)
+      → _≡_ {A = Station} (record { buffer = now (a .0); used = a .1 .0 }) (callingAll (empty buffer) cs)
       → ofTheKept (x .number) ≡ true
-  c-on-kept buffer ms s =
-      c-kept-asked (subst AskedIn (sym s) (on-all-asked (empty buffer) ms (empty-asked buffer))) .0
+  c-calls-kept buffer cs s =
+      c-kept-asked (subst AskedIn (sym s) (calls-asked (empty buffer) cs (empty-asked buffer))) .0
 
 -- ---- making room
 
@@ -114,12 +114,12 @@ module _ (κs : Lfts 1) (a : Dens κs room-kinds.ps) (e : AtExit (endedOf 1 room
     subst AskedIn (sym c-making) (made-asked (record { buffer = now (a .0); used = a .1 .0 }) h),
   )
 
-  -- A HOST THAT BEGAN WITH AN EMPTY LOG AND CHANGED IT BY THE TWO CALLS ALONE never gets 16 or 17
-  pub c-on-alone : (buffer : List ℕ) (ms : List (List ℕ))
-      → _≡_ {A = Station} (record { buffer = now (a .0); used = a .1 .0 }) (keepingOnAll (empty buffer) ms)
+  -- A HOST THAT BEGAN WITH AN EMPTY LOG AND CHANGED IT BY THE TWO CALLS ALONE, in whatever order, never gets 16 or 17
+  pub c-calls-made : (buffer : List ℕ) (cs : List Call)
+      → _≡_ {A = Station} (record { buffer = now (a .0); used = a .1 .0 }) (callingAll (empty buffer) cs)
       → x .number ≡ 0
-  c-on-alone buffer ms s =
-      c-made-asked (subst AskedIn (sym s) (on-all-asked (empty buffer) ms (empty-asked buffer))) .0
+  c-calls-made buffer cs s =
+      c-made-asked (subst AskedIn (sym s) (calls-asked (empty buffer) cs (empty-asked buffer))) .0
 
 -- ---- finding
 
