@@ -77,7 +77,7 @@ wonOf log used = record {
   length = cond (eqb (logRefusal log used) 0) (used - length (smaller (take used log))) 0;
 }
 
--- "where it stands; bytes beyond the new used length stay"
+-- "Make it smaller where it stands"; "bytes beyond the new used length stay"
 unfoldable pub afterRoom : List ℕ → ℕ → List ℕ
 afterRoom log used = cond (eqb (logRefusal log used) 0) (laid log 0 (smaller (take used log))) log
 
