@@ -56,14 +56,17 @@ part-filled : (l : List ℕ) (first count : ℕ) {after : List ℕ} → first + 
     → after ≡ replicate (length (take (first + count - first) (drop first l))) 1
     → putMid first (first + count - first) l after ≡ laid l first (replicate count 1)
 part-filled l first count {after} h e =
-    let n : first + count - first ≡ count = omega arith in
-    let size : length (take (first + count - first) (drop first l)) ≡ count =
-    simp (length-take, length-drop) (omega arith) in
     ap (putMid first (first + count - first) l) (e ∙ ap (λ (k : ℕ). replicate k 1) size)
     ∙ ap (λ (k : ℕ). take first l ++ (replicate count 1 ++ drop k (drop first l))) n
     ∙ ap (λ (r : List ℕ). take first l ++ (replicate count 1 ++ r))
     (drop-drop count first l ∙ ap (λ (k : ℕ). drop (first + k) l) (sym (length-replicate count 1)))
     ∙ sym (append-assoc (take first l) (replicate count 1) (drop (first + length (replicate count 1)) l))
+  where
+    n : first + count - first ≡ count
+    n = omega arith
+
+    size : length (take (first + count - first) (drop first l)) ≡ count
+    size = simp (length-take, length-drop) (omega arith)
 
 -- what `note` says and leaves
 abbrev Noted : List ℕ → List ℕ → Bool → List ℕ → Type 0
