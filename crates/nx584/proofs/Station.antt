@@ -10,9 +10,10 @@ use borrow.Fn.Kinds.{Dens, endedOf, resT}
 use contract.Lifetimes.{Lfts}
 use denote.Ref.{now}
 use denote.Triple.Clauses.{AtExit}
-use Rattle.standard.specs.Messages.{among}
+use Rattle.standard.specs.Words.{Bytes}
+use Rattle.standard.specs.Messages.{among, isStatus}
 use Rattle.log.specs.declared.Found.{Found}
-use Rattle.log.specs.Log.{newestOf, logRefusal, addedOf}
+use Rattle.log.specs.Log.{newestOf, logRefusal, keepRefusal, addedOf}
 use Rattle.log.specs.Room.{wonOf}
 use Rattle.log.specs.Runs.{Station, empty, keeping, keepingAll, making, Call, callingAll}
 use Rattle.log.proofs.Refusing.{Asked, asked-none, log-numbers, ofTheKept, ofAny, all-numbers}
@@ -20,6 +21,7 @@ use Rattle.log.proofs.Finding.{handed}
 use Rattle.log.proofs.Keeping.{keep-numbers, keeping-asked, all-asked, empty-asked}
 use Rattle.log.proofs.Making.{won-less, made-beyond, made-asked, calls-asked}
 use Rattle.log.proofs.Newer.{none-at-0}
+use Rattle.log.proofs.Always.{in-memory, never-full}
 use Rattle.nx584.specs.declared.CWritten.{CWritten}
 use Rattle.nx584.specs.declared.CFound.{CFound}
 use Rattle.nx584.specs.Station.{cFound}
@@ -120,6 +122,14 @@ module _ (κs : Lfts 1) (a : Dens κs room-kinds.ps) (e : AtExit (endedOf 1 room
       → x .number ≡ 0
   c-calls-made buffer cs s =
       c-made-asked (subst AskedIn (sym s) (calls-asked (empty buffer) cs (empty-asked buffer))) .0
+
+  -- A BUFFER OF `NX584_LOG_ENOUGH` BYTES IS NEVER FULL after this call: every message that a log keeps is then kept
+  pub c-never-full : (m : List ℕ) → Asked (now (a .0)) (a .1 .0) → Bytes (now (a .0)) → 5236 ≤ length (now (a .0))
+      → isStatus m ≡ true → keepRefusal (now (e .0)) (a .1 .0 - x .length) m ≡ 0
+  c-never-full m h bytes enough k =
+      let s : Station = record { buffer = now (a .0); used = a .1 .0 } in
+      ap (λ (t : Station). keepRefusal (t .buffer) (t .used) m) c-making
+      ∙ never-full s m (in-memory s h bytes) enough k
 
 -- ---- finding
 
