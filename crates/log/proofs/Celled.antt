@@ -7,15 +7,17 @@ use mathlib.Core.List.{List, [], _∷_, _++_, append-assoc}
 use lib.Dec.{eqb, ltb}
 use lib.ListN.{length, getD, take, drop, set, replicate, length-take, length-drop, length-replicate}
 use lib.ListN.{length-append, length-set, getD-replicate, List·getD-append}
-use lib.Seq.{drop-drop, drop-cons, sets-eq, length-take-le, getD-append-add, getD-take, getD-drop, getD-set-same}
+use lib.Seq.{drop-drop, drop-cons, sets-eq, length-take-le, getD-append-add, getD-take, getD-set-same}
 use lib.Seq.{getD-set-other}
 use borrow.Author.Tests.{ne-eqb, eqb-true, eqb-false, ltb-true, ltb-false}
 use borrow.Rule.Slice.PartMut.{putMid}
-use Rattle.standard.specs.Words.{byte, laid}
+use Rattle.standard.specs.Words.{byte, laid, Put}
 use Rattle.standard.specs.Messages.{numberOf, isStatus}
+use Rattle.standard.proofs.Put.{put-length}
 use Rattle.standard.proofs.Messages.{or-false}
 use Rattle.standard.proofs.Status.{status-cases}
 use Rattle.log.specs.Cells.{Cells, cellsMost, cellsOf, anyZero, isNew, noted}
+use Rattle.log.proofs.Moving.{put-there}
 
 -- the cells of each number
 module _ (m : List ℕ) where
@@ -148,17 +150,6 @@ laid-before l part f c lo fit =
     ∙ List·getD-append (take f l) part 0 c (omega arith)
     ∙ getD-take f l c 0 lo
 
-laid-behind : (l part : List ℕ) (f c : ℕ) → f + length part ≤ c → f ≤ length l
-    → getD (laid l f part) c 0 ≡ getD l c 0
-laid-behind l part f c hi fit =
-    let size = length-take-le f l fit in
-    let all = length-append (take f l) part in
-    let at : c ≡ length (take f l ++ part) + (c - (f + length part)) = omega arith in
-    ap (λ (k : ℕ). getD (laid l f part) k 0) at
-    ∙ getD-append-add (take f l ++ part) (drop (f + length part) l) (c - (f + length part)) 0
-    ∙ getD-drop (f + length part) l (c - (f + length part)) 0
-    ∙ ap (λ (k : ℕ). getD l k 0) (omega arith)
-
 module _ (cells m : List ℕ) (fit : cellsOf m .first + cellsOf m .count ≤ length cells) where
   abbrev first : ℕ
   first = cellsOf m .first
@@ -183,11 +174,12 @@ module _ (cells m : List ℕ) (fit : cellsOf m .first + cellsOf m .count ≤ len
       go true e = four (eqb-true (numberOf (byte 1 m)) 0x04 e)
       go false e = other (eqb-false (numberOf (byte 1 m)) 0x04 e)
 
+  -- they are put there
+  all-put : Put cells first ones (laid cells first ones) (first + length ones)
+  all-put = let n = many in record { bytes = sym (sets-eq ones cells first (omega arith)); end = refl }
+
   laid-size : length (laid cells first ones) ≡ length cells
-  laid-size =
-      let n = many in
-      let size = length-take-le first cells (omega arith) in
-      simp (length-append, length-drop) (omega arith)
+  laid-size = put-length all-put
 
   pub noted-length : length (noted cells m) ≡ length cells
   noted-length =
@@ -234,7 +226,7 @@ module _ (cells m : List ℕ) (fit : cellsOf m .first + cellsOf m .count ≤ len
       go false e =
           let lo = ltb-false c first e in
           let n = many in
-          laid-behind cells ones first c (behind lo (ltb c (first + count)) refl) (omega arith)
+          put-there c all-put (behind lo (ltb c (first + count)) refl)
         where
           behind : first ≤ c → (t : Bool) → ltb c (first + count) ≡ t → first + length ones ≤ c
           behind lo true e = absurd (out lo (ltb-true c (first + count) e))

@@ -153,7 +153,7 @@ module _ (m : List ℕ) where
   Owns c = InRun (cellsOf m) c ⊎ ((number ≡ 0x04) × (c ≡ 256 + byte 2 m))
 
   -- which cells those are, its number tells
-  pub owner : (P : Type 0) (c : ℕ) → isStatus m ≡ true → Owns c
+  owner : (P : Type 0) (c : ℕ) → isStatus m ≡ true → Owns c
       → (number ≡ 0x04 → c ≡ byte 2 m → P)
       → (number ≡ 0x04 → c ≡ 256 + byte 2 m → P)
       → (number ≡ 0x05 → byte 2 m ≤ 240 → 256 + byte 2 m ≤ c → c < 256 + byte 2 m + 16 → P)
@@ -275,6 +275,47 @@ module _ (m : List ℕ) where
           → stored (cellPlace c) (messageWrites m) ≡ true
       at {ws} {i} e p told = ap (stored (cellPlace c)) e ∙ ap (λ (k : ℕ). stored k ws) p ∙ told
 
+-- ---- who owns the cell of another
+
+-- a message of the same zone, or partition
+abbrev pub Same : ℕ → List ℕ → List ℕ → Type 0
+Same n m l = (numberOf (byte 1 l) ≡ n) × (byte 2 l ≡ byte 2 m)
+
+-- a 04h of a zone, or a 05h that covers it
+abbrev pub Speaks : ℕ → List ℕ → Type 0
+Speaks z l =
+    ((numberOf (byte 1 l) ≡ 0x04) × (byte 2 l ≡ z))
+    ⊎ ((numberOf (byte 1 l) ≡ 0x05) × (byte 2 l ≤ z) × (z < byte 2 l + 16))
+
+module _ (l : List ℕ) (good : isStatus l ≡ true) (small : byte 2 l < 256) where
+  pub owns-04 : (m : List ℕ) → byte 2 m < 256 → Owns l (byte 2 m) → Same 0x04 m l
+  owns-04 m h o =
+      owner l (Same 0x04 m l) (byte 2 m) good o (λ d q. (d, sym q)) (λ d q. absurd (omega arith))
+      (λ d k lo hi. absurd (omega arith)) (λ d k q. absurd (omega arith)) (λ d q. absurd (omega arith))
+      (λ d q. absurd (omega arith))
+
+  pub owns-05 : (z : ℕ) → z < 256 → Owns l (256 + z) → Speaks z l
+  owns-05 z h o =
+      owner l (Speaks z l) (256 + z) good o (λ d q. absurd (omega arith)) (λ d q. inl (d, omega arith))
+      (λ d k lo hi. inr (d, omega arith, omega arith)) (λ d k q. absurd (omega arith)) (λ d q. absurd (omega arith))
+      (λ d q. absurd (omega arith))
+
+  pub owns-06 : (m : List ℕ) → byte 2 m ≤ 7 → Owns l (512 + byte 2 m) → Same 0x06 m l
+  owns-06 m h o =
+      owner l (Same 0x06 m l) (512 + byte 2 m) good o (λ d q. absurd (omega arith)) (λ d q. absurd (omega arith))
+      (λ d k lo hi. absurd (omega arith)) (λ d k q. (d, omega arith)) (λ d q. absurd (omega arith))
+      (λ d q. absurd (omega arith))
+
+  pub owns-07 : Owns l 520 → numberOf (byte 1 l) ≡ 0x07
+  owns-07 o =
+      owner l (numberOf (byte 1 l) ≡ 0x07) 520 good o (λ d q. absurd (omega arith)) (λ d q. absurd (omega arith))
+      (λ d k lo hi. absurd (omega arith)) (λ d k q. absurd (omega arith)) (λ d q. d) (λ d q. absurd (omega arith))
+
+  pub owns-08 : Owns l 521 → numberOf (byte 1 l) ≡ 0x08
+  owns-08 o =
+      owner l (numberOf (byte 1 l) ≡ 0x08) 521 good o (λ d q. absurd (omega arith)) (λ d q. absurd (omega arith))
+      (λ d k lo hi. absurd (omega arith)) (λ d k q. absurd (omega arith)) (λ d q. absurd (omega arith)) (λ d q. d)
+
 -- ---- what is done again
 
 -- one by one
@@ -344,23 +385,28 @@ module _ (m n : List ℕ) (status : isStatus m ≡ true) (good : isStatus n ≡ 
   long : (l : List ℕ) (k : ℕ) → isStatus l ≡ true → numberOf (byte 1 l) ≡ k → length l ≡ lengthIn known k
   long l k h e = passed-number l k (passed l (status-is l h .0)) e
 
-  does-04 : numberOf (byte 1 n) ≡ 0x04 → byte 2 n ≡ byte 2 m → Does (zoneWrites m)
-  does-04 e same =
-      by (zoneWrites m) (writes-04 n e)
+  does-04 : Same 0x04 m n → Does (zoneWrites m)
+  does-04 same =
+      by (zoneWrites m) (writes-04 n (same .0))
       (subst (λ (p : ℕ). Every (λ w. again (marks p 3 ∷ storesFrom (p + 1) (zoneRun n)) w ≡ true) (zoneWrites m))
-      (sym (ap zonePlace same))
+      (sym (ap zonePlace (same .1)))
       (record-again (zonePlace (byte 2 m)) 3 (zoneRun n) (zoneRun m) (omega arith)))
 
-  does-06 : numberOf (byte 1 m) ≡ 0x06 → numberOf (byte 1 n) ≡ 0x06 → byte 2 n ≡ byte 2 m → Does (partitionWrites m)
-  does-06 d e same =
+  does-05 : (j : ℕ) → Speaks (byte 2 m + j) n → Does (shortWrites m j)
+  does-05 j =
+      ⊎-elim (λ q. by (shortWrites m j) (writes-04 n (q .0)) (short-04 (byte 2 m + j) 0 n (q .1)))
+      (λ q. by (shortWrites m j) (writes-05 n (q .0)) (short-05 (byte 2 m + j) 0 n (q .1) (q .2)))
+
+  does-06 : numberOf (byte 1 m) ≡ 0x06 → Same 0x06 m n → Does (partitionWrites m)
+  does-06 d same =
       let a = long m 0x06 status d in
-      let b = long n 0x06 good e in
+      let b = long n 0x06 good (same .0) in
       let sizes : length (take 7 (drop 2 m)) ≤ length (take 7 (drop 2 n)) =
       simp (length-take, length-drop) (omega arith) in
-      by (partitionWrites m) (writes-06 n e)
+      by (partitionWrites m) (writes-06 n (same .0))
       (subst (λ (p : ℕ). Every (λ w. again (marks p 2 ∷ storesFrom (p + 1) (take 7 (drop 2 n))) w ≡ true)
       (partitionWrites m))
-      (sym (ap partitionPlace same))
+      (sym (ap partitionPlace (same .1)))
       (record-again (partitionPlace (byte 2 m)) 2 (take 7 (drop 2 n)) (take 7 (drop 2 m)) sizes))
 
   does-07 : numberOf (byte 1 n) ≡ 0x07 → Does (flatMap (partitionShort m) (upTo 8))
@@ -394,39 +440,48 @@ abbrev pub Fine : List (List ℕ) → Type 0
 Fine [] = Unit {0}
 Fine (m ∷ ms) = (isStatus m ≡ true) × (byte 2 m < 256) × Fine ms
 
--- one of them that stores at a place
-record Writer (i : ℕ) (later : List (List ℕ)) : Type 0 where
-  message : List ℕ
-  status : isStatus message ≡ true
-  small : byte 2 message < 256
-  there : stored i (messageWrites message) ≡ true
-  among : (w : Write) → again (messageWrites message) w ≡ true → again (allWrites later) w ≡ true
+-- one of them
+abbrev pub Some : (List ℕ → Type 0) → List (List ℕ) → Type 0
+Some P [] = ⊥
+Some P (m ∷ ms) = P m ⊎ Some P ms
 
-writer : (i : ℕ) (later : List (List ℕ)) → Fine later → stored i (allWrites later) ≡ true → Writer i later
-unfolding allWrites stored
-writer i [] f h = absurd (false≢true h)
-writer i (m ∷ later) f h =
-    go (stored i (messageWrites m)) refl (sym (stored-append i (messageWrites m) (allWrites later)) ∙ h)
-    (writer i later (f .2))
-  where
-    go : (t : Bool) → stored i (messageWrites m) ≡ t → (t || stored i (allWrites later)) ≡ true
-        → (stored i (allWrites later) ≡ true → Writer i later) → Writer i (m ∷ later)
-    go true e h more = record {
-      message = m;
-      status = f .0;
-      small = f .1;
-      there = e;
-      among = again-left (messageWrites m) (allWrites later);
-    }
-    go false e h more =
-        let w = more h in
-        record {
-          message = w .message;
-          status = w .status;
-          small = w .small;
-          there = w .there;
-          among = λ v k. again-right (messageWrites m) (allWrites later) v (w .among v k);
-        }
+pub some-more : {P Q : List ℕ → Type 0} → (ms : List (List ℕ)) → Fine ms
+    → ((m : List ℕ) → isStatus m ≡ true → byte 2 m < 256 → P m → Q m) → Some P ms → Some Q ms
+some-more [] f h s = s
+some-more (m ∷ ms) f h s = ⊎-elim (λ p. inl (h m (f .0) (f .1) p)) (λ r. inr (some-more ms (f .2) h r)) s
+
+-- a cell is written where one of them owns it
+module _ (c : ℕ) (among : c < cellsMost) where
+  pub cell-some : (later : List (List ℕ)) → Fine later → stored (cellPlace c) (allWrites later) ≡ true
+      → Some (λ n. Owns n c) later
+  unfolding allWrites stored
+  cell-some [] f h = false≢true h
+  cell-some (n ∷ later) f h =
+      go (stored (cellPlace c) (messageWrites n)) refl
+      (sym (stored-append (cellPlace c) (messageWrites n) (allWrites later)) ∙ h) (cell-some later (f .2))
+    where
+      go : (t : Bool) → stored (cellPlace c) (messageWrites n) ≡ t
+          → (t || stored (cellPlace c) (allWrites later)) ≡ true
+          → (stored (cellPlace c) (allWrites later) ≡ true → Some (λ n. Owns n c) later)
+          → Owns n c ⊎ Some (λ n. Owns n c) later
+      go true e h more = inl (cell-told n (f .0) (f .1) c among e)
+      go false e h more = inr (more h)
+
+-- what one of them does again, all do together
+some-again : {P : List ℕ → Type 0} (ws : List Write) (later : List (List ℕ)) → Fine later
+    → ((n : List ℕ) → isStatus n ≡ true → byte 2 n < 256 → P n → Every (λ w. again (messageWrites n) w ≡ true) ws)
+    → Some P later → Every (λ w. again (allWrites later) w ≡ true) ws
+unfolding allWrites
+some-again ws [] f does s = absurd s
+some-again ws (n ∷ later) f does s =
+    ⊎-elim (λ p. every-more (again-left (messageWrites n) (allWrites later)) ws (does n (f .0) (f .1) p))
+    (λ r. every-more (again-right (messageWrites n) (allWrites later)) ws (some-again ws later (f .2) does r)) s
+
+-- and so a cell is written
+pub some-cell : (c : ℕ) (later : List (List ℕ)) → Fine later → Some (λ n. Owns n c) later
+    → stored (cellPlace c) (allWrites later) ≡ true
+some-cell c later f s =
+    some-again (stores (cellPlace c) 0 ∷ []) later f (λ n g b o. (cell-stored n g b c o, tt)) s .0
 
 module _ (m : List ℕ) (later : List (List ℕ)) (status : isStatus m ≡ true) (small : byte 2 m < 256) where
   -- every cell of its own is written later
@@ -452,9 +507,7 @@ module _ (m : List ℕ) (later : List (List ℕ)) (status : isStatus m ≡ true)
       → Again ws
   one-cell fine all {o} e c lo hi most ws does =
       let r = to-run c (sym e) (lo, hi) in
-      let w = writer (cellPlace c) later fine (all c (r .0) (r .1)) in
-      every-more (w .among) ws
-      (does (w .message) (w .status) (w .small) (cell-told (w .message) (w .status) (w .small) c most (w .there)))
+      some-again ws later fine does (cell-some c most later fine (all c (r .0) (r .1)))
 
   pub covered-needless : Fine later → Covered → needless later m ≡ true
   unfolding needless
@@ -464,41 +517,23 @@ module _ (m : List ℕ) (later : List (List ℕ)) (status : isStatus m ≡ true)
       (λ e.
       subst Again (sym (writes-04 m e))
       (one-cell fine all (cells-04 m e) (byte 2 m) (omega arith) (omega arith) (omega arith) (zoneWrites m)
-      (λ n g b o.
-      owner n (Does m n status g (zoneWrites m)) (byte 2 m) g o (λ d q. does-04 m n status g d (sym q))
-      (λ d q. absurd (omega arith)) (λ d k lo hi. absurd (omega arith)) (λ d k q. absurd (omega arith))
-      (λ d q. absurd (omega arith)) (λ d q. absurd (omega arith)))))
+      (λ n g b o. does-04 m n status g (owns-04 n g b m small o))))
       (λ e off.
       subst Again (sym (writes-05 m e))
       (every-turn (λ w. again (allWrites later) w ≡ true) (shortWrites m) 16
       (λ j l.
-      let c = 256 + (byte 2 m + j) in
-      one-cell fine all (cells-05 m e) c (omega arith) (omega arith) (omega arith) (shortWrites m j)
-      (λ n g b o.
-      owner n (Does m n status g (shortWrites m j)) c g o (λ d q. absurd (omega arith))
-      (λ d q. by m n status g (shortWrites m j) (writes-04 n d) (short-04 (byte 2 m + j) 0 n (omega arith)))
-      (λ d k lo hi.
-      by m n status g (shortWrites m j) (writes-05 n d) (short-05 (byte 2 m + j) 0 n (omega arith) (omega arith)))
-      (λ d k q. absurd (omega arith)) (λ d q. absurd (omega arith)) (λ d q. absurd (omega arith))))))
+      one-cell fine all (cells-05 m e) (256 + (byte 2 m + j)) (omega arith) (omega arith) (omega arith)
+      (shortWrites m j)
+      (λ n g b o. does-05 m n status g j (owns-05 n g b (byte 2 m + j) (omega arith) o)))))
       (λ e few.
       subst Again (sym (writes-06 m e))
       (one-cell fine all (cells-06 m e) (512 + byte 2 m) (omega arith) (omega arith) (omega arith) (partitionWrites m)
-      (λ n g b o.
-      owner n (Does m n status g (partitionWrites m)) (512 + byte 2 m) g o (λ d q. absurd (omega arith))
-      (λ d q. absurd (omega arith)) (λ d k lo hi. absurd (omega arith))
-      (λ d k q. does-06 m n status g e d (omega arith)) (λ d q. absurd (omega arith)) (λ d q. absurd (omega arith)))))
+      (λ n g b o. does-06 m n status g e (owns-06 n g b m few o))))
       (λ e.
       subst Again (sym (writes-07 m e))
       (one-cell fine all (cells-07 m e) 520 (omega arith) (omega arith) (omega arith)
-      (flatMap (partitionShort m) (upTo 8))
-      (λ n g b o.
-      owner n (Does m n status g (flatMap (partitionShort m) (upTo 8))) 520 g o (λ d q. absurd (omega arith))
-      (λ d q. absurd (omega arith)) (λ d k lo hi. absurd (omega arith)) (λ d k q. absurd (omega arith))
-      (λ d q. does-07 m n status g d) (λ d q. absurd (omega arith)))))
+      (flatMap (partitionShort m) (upTo 8)) (λ n g b o. does-07 m n status g (owns-07 n g b o))))
       (λ e.
       subst Again (sym (writes-08 m e))
       (one-cell fine all (cells-08 m e) 521 (omega arith) (omega arith) (omega arith) (systemWrites m)
-      (λ n g b o.
-      owner n (Does m n status g (systemWrites m)) 521 g o (λ d q. absurd (omega arith))
-      (λ d q. absurd (omega arith)) (λ d k lo hi. absurd (omega arith)) (λ d k q. absurd (omega arith))
-      (λ d q. absurd (omega arith)) (λ d q. does-08 m n status g e d)))))
+      (λ n g b o. does-08 m n status g e (owns-08 n g b o)))))

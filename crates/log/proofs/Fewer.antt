@@ -13,7 +13,8 @@ use Rattle.standard.specs.Messages.{known, lengthIn, numberOf, isStatus}
 use Rattle.standard.proofs.Messages.{passed, passed-number}
 use Rattle.standard.proofs.Status.{status-cases, status-is}
 use Rattle.log.specs.Log.{recordOf, joined}
-use Rattle.log.specs.Room.{needless, keptOf, countOf}
+use Rattle.log.specs.Room.{needless, keptOf}
+use Rattle.log.specs.Runs.{countOf}
 use Rattle.log.specs.Cells.{Cells, cellsMost, cellsOf, isNew, noted}
 use Rattle.log.proofs.Celled.{cells-04, cells-05, cells-06, cells-07, cells-08}
 use Rattle.log.proofs.Which.{kept-by}

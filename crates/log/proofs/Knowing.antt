@@ -37,6 +37,69 @@ knows-none = record {
   each = λ c h. getD-replicate cellsMost c 0 0 h;
 }
 
+-- ---- cells that are not written yet
+
+-- one of some cells is not written yet, or all are
+any-zero : (l : List ℕ) → anyZero l ≡ true → (i : ℕ) × (i < length l) × (getD l i 0 ≡ 0)
+unfolding anyZero
+any-zero [] h = absurd (false≢true h)
+any-zero (c ∷ l) h = go (eqb c 0) refl h (any-zero l)
+  where
+    go : (t : Bool) → eqb c 0 ≡ t → (t || anyZero l) ≡ true
+        → (anyZero l ≡ true → (i : ℕ) × (i < length l) × (getD l i 0 ≡ 0))
+        → (i : ℕ) × (i < length (c ∷ l)) × (getD (c ∷ l) i 0 ≡ 0)
+    go true e h more = (0, omega arith, eqb-true c 0 e)
+    go false e h more = let w = more h in (suc (w .0), omega (arith, w .1), w .2)
+
+no-zero : (l : List ℕ) → anyZero l ≡ false → (i : ℕ) → i < length l → getD l i 0 ≡ 0 → ⊥
+unfolding anyZero
+no-zero [] h i l z = absurd (omega arith)
+no-zero (c ∷ l) h zero b z = eqb-false c 0 (neither-true (eqb c 0) (anyZero l) h .0) z
+no-zero (c ∷ l) h (suc i) b z = no-zero l (neither-true (eqb c 0) (anyZero l) h .1) i (omega arith) z
+
+-- how many of a range of cells are not
+abbrev pub zeros : ℕ → ℕ → List ℕ → ℕ
+zeros low many cells = total (map (λ i. cond (eqb (getD cells (low + i) 0) 0) 1 0) (upTo many))
+
+-- no more than there are
+pub zeros-most : (low many : ℕ) (cells : List ℕ) → zeros low many cells ≤ many
+zeros-most low many cells =
+    let n = length-upTo many in
+    let s =
+    total-le (λ i. cond (eqb (getD cells (low + i) 0) 0) 1 0) 1 (λ i. few (eqb (getD cells (low + i) 0) 0))
+    (upTo many) in
+    omega arith
+  where
+    few : (t : Bool) → cond t 1 0 ≤ 1
+    few true = le-refl 1
+    few false = omega arith
+
+-- one term less, and none more
+total-less : (f g : ℕ → ℕ) → ((x : ℕ) → f x ≤ g x) → (n i : ℕ) → i < n → f i < g i
+    → total (map f (upTo n)) < total (map g (upTo n))
+total-less f g h zero i l d = absurd (omega arith)
+total-less f g h (suc n) i l d =
+    let a = ap (λ (k : ℕ). total (map f (upTo k))) (sym (add-one n)) ∙ total-more f n in
+    let b = ap (λ (k : ℕ). total (map g (upTo k))) (sym (add-one n)) ∙ total-more g n in
+    go (eqb i n) refl a b (λ k. total-less f g h n i k d)
+  where
+    go : (t : Bool) → eqb i n ≡ t → total (map f (upTo (suc n))) ≡ total (map f (upTo n)) + f n
+        → total (map g (upTo (suc n))) ≡ total (map g (upTo n)) + g n
+        → (i < n → total (map f (upTo n)) < total (map g (upTo n)))
+        → total (map f (upTo (suc n))) < total (map g (upTo (suc n)))
+    go true e a b more =
+        let q = eqb-true i n e in
+        let s : f n < g n = subst (λ (j : ℕ). f j < g j) q d in
+        let r = total-mono f g h (upTo n) in
+        omega arith
+    go false e a b more =
+        let q = eqb-false i n e in
+        let s = more (omega arith) in
+        let r = h n in
+        omega arith
+
+-- ---- a record
+
 module _ (cells m : List ℕ) (later : List (List ℕ)) (k : Knows cells later) (status : isStatus m ≡ true)
     (small : byte 2 m < 256) where
   fit : cellsOf m .first + cellsOf m .count ≤ length cells
@@ -83,26 +146,6 @@ module _ (cells m : List ℕ) (later : List (List ℕ)) (k : Knows cells later) 
   own-at i h =
       getD-take (cellsOf m .count) (drop (cellsOf m .first) cells) i 0 h ∙ getD-drop (cellsOf m .first) cells i 0
 
--- one of some cells is not written yet, or all are
-any-zero : (l : List ℕ) → anyZero l ≡ true → (i : ℕ) × (i < length l) × (getD l i 0 ≡ 0)
-unfolding anyZero
-any-zero [] h = absurd (false≢true h)
-any-zero (c ∷ l) h = go (eqb c 0) refl h (any-zero l)
-  where
-    go : (t : Bool) → eqb c 0 ≡ t → (t || anyZero l) ≡ true
-        → (anyZero l ≡ true → (i : ℕ) × (i < length l) × (getD l i 0 ≡ 0))
-        → (i : ℕ) × (i < length (c ∷ l)) × (getD (c ∷ l) i 0 ≡ 0)
-    go true e h more = (0, omega arith, eqb-true c 0 e)
-    go false e h more = let w = more h in (suc (w .0), omega (arith, w .1), w .2)
-
-no-zero : (l : List ℕ) → anyZero l ≡ false → (i : ℕ) → i < length l → getD l i 0 ≡ 0 → ⊥
-unfolding anyZero
-no-zero [] h i l z = absurd (omega arith)
-no-zero (c ∷ l) h zero b z = eqb-false c 0 (neither-true (eqb c 0) (anyZero l) h .0) z
-no-zero (c ∷ l) h (suc i) b z = no-zero l (neither-true (eqb c 0) (anyZero l) h .1) i (omega arith) z
-
-module _ (cells m : List ℕ) (later : List (List ℕ)) (k : Knows cells later) (status : isStatus m ≡ true)
-    (small : byte 2 m < 256) where
   abbrev at : ℕ → ℕ
   at i = cellsOf m .first + i
 
@@ -113,10 +156,10 @@ module _ (cells m : List ℕ) (later : List (List ℕ)) (k : Knows cells later) 
   pub new-cell : isNew cells m ≡ true → (i : ℕ) × (i < cellsOf m .count) × (getD cells (at i) 0 ≡ 0)
   unfolding isNew
   new-cell h =
-      let w = any-zero (own cells m later k status small) h in
-      let n = own-many cells m later k status small in
+      let w = any-zero own h in
+      let n = own-many in
       let l : w .0 < cellsOf m .count = omega (arith, w .1) in
-      (w .0, l, sym (own-at cells m later k status small (w .0) l) ∙ w .2)
+      (w .0, l, sym (own-at (w .0) l) ∙ w .2)
 
   -- A RECORD IS NEW EXACTLY IF IT IS NOT NEEDLESS
   pub new-needless : isNew cells m ≡ not (needless later m)
@@ -134,12 +177,12 @@ module _ (cells m : List ℕ) (later : List (List ℕ)) (k : Knows cells later) 
           let i = c - cellsOf m .first in
           let is : at i ≡ c = omega arith in
           let l : i < cellsOf m .count = omega arith in
-          let n = own-many cells m later k status small in
+          let n = own-many in
           let w = cells-within m status small in
           written c (omega arith)
           (λ z.
-          no-zero (own cells m later k status small) e i (omega arith)
-          (own-at cells m later k status small i l ∙ ap (λ (j : ℕ). getD cells j 0) is ∙ z))
+          no-zero own e i (omega arith)
+          (own-at i l ∙ ap (λ (j : ℕ). getD cells j 0) is ∙ z))
           (stored (cellPlace c) (allWrites later)) refl
 
       go : (a : Bool) → isNew cells m ≡ a → (b : Bool) → needless later m ≡ b → a ≡ not b
@@ -153,51 +196,8 @@ module _ (cells m : List ℕ) (later : List (List ℕ)) (k : Knows cells later) 
       go false e false f =
           absurd (false≢true (sym f ∙ covered-needless m later status small (k .fine) (all e)))
 
--- ---- how many are not written yet
+  -- ---- fewer of them
 
--- of a range of cells
-abbrev pub zeros : ℕ → ℕ → List ℕ → ℕ
-zeros low many cells = total (map (λ i. cond (eqb (getD cells (low + i) 0) 0) 1 0) (upTo many))
-
--- no more than there are
-pub zeros-most : (low many : ℕ) (cells : List ℕ) → zeros low many cells ≤ many
-zeros-most low many cells =
-    let n = length-upTo many in
-    let s =
-    total-le (λ i. cond (eqb (getD cells (low + i) 0) 0) 1 0) 1 (λ i. few (eqb (getD cells (low + i) 0) 0))
-    (upTo many) in
-    omega arith
-  where
-    few : (t : Bool) → cond t 1 0 ≤ 1
-    few true = le-refl 1
-    few false = omega arith
-
--- one term less, and none more
-total-less : (f g : ℕ → ℕ) → ((x : ℕ) → f x ≤ g x) → (n i : ℕ) → i < n → f i < g i
-    → total (map f (upTo n)) < total (map g (upTo n))
-total-less f g h zero i l d = absurd (omega arith)
-total-less f g h (suc n) i l d =
-    let a = ap (λ (k : ℕ). total (map f (upTo k))) (sym (add-one n)) ∙ total-more f n in
-    let b = ap (λ (k : ℕ). total (map g (upTo k))) (sym (add-one n)) ∙ total-more g n in
-    go (eqb i n) refl a b (λ k. total-less f g h n i k d)
-  where
-    go : (t : Bool) → eqb i n ≡ t → total (map f (upTo (suc n))) ≡ total (map f (upTo n)) + f n
-        → total (map g (upTo (suc n))) ≡ total (map g (upTo n)) + g n
-        → (i < n → total (map f (upTo n)) < total (map g (upTo n)))
-        → total (map f (upTo (suc n))) < total (map g (upTo (suc n)))
-    go true e a b more =
-        let q = eqb-true i n e in
-        let s : f n < g n = subst (λ (j : ℕ). f j < g j) q d in
-        let r = total-mono f g h (upTo n) in
-        omega arith
-    go false e a b more =
-        let q = eqb-false i n e in
-        let s = more (omega arith) in
-        let r = h n in
-        omega arith
-
-module _ (cells m : List ℕ) (later : List (List ℕ)) (k : Knows cells later) (status : isStatus m ≡ true)
-    (small : byte 2 m < 256) where
   abbrev unwritten : ℕ → List ℕ → ℕ
   unwritten c l = cond (eqb (getD l c 0) 0) 1 0
 
@@ -207,7 +207,7 @@ module _ (cells m : List ℕ) (later : List (List ℕ)) (k : Knows cells later) 
       (eqb (numberOf (byte 1 m)) 0x04 && eqb c (256 + byte 2 m)) refl
     where
       one : Owns m c → unwritten c (noted cells m) ≤ unwritten c cells
-      one o = rw (owned cells m later k status small c o) (omega arith)
+      one o = rw (owned c o) (omega arith)
 
       go : (a : Bool) → (leb (cellsOf m .first) c && ltb c (cellsOf m .first + cellsOf m .count)) ≡ a
           → (b : Bool) → (eqb (numberOf (byte 1 m)) 0x04 && eqb c (256 + byte 2 m)) ≡ b
@@ -219,7 +219,7 @@ module _ (cells m : List ℕ) (later : List (List ℕ)) (k : Knows cells later) 
           let r = both-true _ _ q in
           one (inr (eqb-true (numberOf (byte 1 m)) 0x04 (r .0), eqb-true c (256 + byte 2 m) (r .1)))
       go false p false q =
-          rw (other cells m later k status small c
+          rw (other c
           (⊎-elim
           (λ o. false≢true (sym p
           ∙ rw (le-leb (cellsOf m .first) c (o .0), lt-ltb c (cellsOf m .first + cellsOf m .count) (o .1)) refl))
@@ -236,14 +236,14 @@ module _ (cells m : List ℕ) (later : List (List ℕ)) (k : Knows cells later) 
   pub zeros-fewer : (low many : ℕ) → low ≤ cellsOf m .first → cellsOf m .first + cellsOf m .count ≤ low + many
       → isNew cells m ≡ true → zeros low many (noted cells m) < zeros low many cells
   zeros-fewer low many lo hi new =
-      let w = new-cell cells m later k status small new in
+      let w = new-cell new in
       let c = cellsOf m .first + w .0 in
       let l = w .1 in
       let i = c - low in
       let is : low + i ≡ c = omega arith in
       let was : unwritten c cells ≡ 1 = rw (w .2) refl in
       let now : unwritten c (noted cells m) ≡ 0 =
-      rw (owned cells m later k status small c (inl (omega arith, omega arith))) refl in
+      rw (owned c (inl (omega arith, omega arith))) refl in
       total-less (λ i. unwritten (low + i) (noted cells m)) (λ i. unwritten (low + i) cells) (λ i. no-more (low + i))
       many i (omega arith)
       (subst (λ (j : ℕ). unwritten j (noted cells m) < unwritten j cells) (sym is) (rw (was, now) (omega arith)))

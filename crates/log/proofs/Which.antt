@@ -19,8 +19,8 @@ use Rattle.standard.proofs.Table.{doneAll-append, Every, NotStored, every-run, 
 use Rattle.standard.proofs.Applied.{taken-leaves, applied-length, writes-are, zoneRun}
 use Rattle.standard.proofs.Stored.{taken, kept}
 use Rattle.log.specs.Log.{recordOf, joined, allKept, about, fromNewest, firstRecord}
-use Rattle.log.specs.Room.{messageWrites, allWrites, stored, needless, keptOf, keptAlone}
-use Rattle.log.specs.Runs.{oldestFirst}
+use Rattle.log.specs.Room.{messageWrites, allWrites, stored, needless, keptOf}
+use Rattle.log.specs.Runs.{keptAlone, oldestFirst}
 use Rattle.log.proofs.Abouts.{about-zone, about-sixteen, about-other}
 use Rattle.log.proofs.Rebuilt.{told-more}
 use Rattle.log.proofs.Rewritten.{stored-append, Alike, alike-self, alike-more, alike-again, again-alike}

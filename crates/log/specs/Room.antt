@@ -1,5 +1,5 @@
 -- Document 02, No. 7: making room in a full log. Assumes nothing.
-use Prim.Native.Nat.{ℕ, _+_, _-_}
+use Prim.Native.Nat.{ℕ, _-_}
 use mathlib.Core.Path.{_≡_}
 use mathlib.Core.Bool.{Bool, true, false, cond, _&&_, _||_}
 use mathlib.Core.Option.{Option·getD}
@@ -53,16 +53,6 @@ unfoldable pub keptOf : List (List ℕ) → List (List ℕ) → List (List ℕ)
 keptOf later [] = []
 keptOf later (m ∷ older) =
     cond (needless later m) (keptOf (m ∷ later) older) (m ∷ keptOf (m ∷ later) older)
-
--- the same where only the kept ones among the later are counted
-unfoldable pub keptAlone : List (List ℕ) → List (List ℕ) → List (List ℕ)
-keptAlone later [] = []
-keptAlone later (m ∷ older) = cond (needless later m) (keptAlone later older) (m ∷ keptAlone (m ∷ later) older)
-
--- how many of some messages have a number
-unfoldable pub countOf : ℕ → List (List ℕ) → ℕ
-countOf n [] = 0
-countOf n (m ∷ ms) = cond (eqb (numberOf (byte 1 m)) n) 1 0 + countOf n ms
 
 -- ---- what the call answers, and what it leaves
 

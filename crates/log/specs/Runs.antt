@@ -5,9 +5,11 @@ use mathlib.Core.Option.{Option·getD}
 use mathlib.Core.List.{List, [], _∷_, _++_}
 use lib.Dec.{eqb}
 use lib.ListN.{take}
+use Rattle.standard.specs.Words.{byte}
+use Rattle.standard.specs.Messages.{numberOf}
 use Rattle.standard.specs.Judge.{Handed, handing}
 use Rattle.log.specs.Log.{recordsOf, about, keepRefusal, addedOf, afterKeep}
-use Rattle.log.specs.Room.{wonOf, afterRoom}
+use Rattle.log.specs.Room.{needless, wonOf, afterRoom}
 
 -- whether one of some messages is about a zone
 unfoldable pub anyAbout : ℕ → List (List ℕ) → Bool
@@ -69,6 +71,16 @@ keepingOn s m = cond (eqb (keepRefusal (s .buffer) (s .used) m) 9) (keeping (mak
 unfoldable pub keepingOnAll : Station → List (List ℕ) → Station
 keepingOnAll s [] = s
 keepingOnAll s (m ∷ ms) = keepingOnAll (keepingOn s m) ms
+
+-- the messages that stay, as `keptOf` has them, where only the kept ones among the later are counted
+unfoldable pub keptAlone : List (List ℕ) → List (List ℕ) → List (List ℕ)
+keptAlone later [] = []
+keptAlone later (m ∷ older) = cond (needless later m) (keptAlone later older) (m ∷ keptAlone (m ∷ later) older)
+
+-- how many of some messages have a number
+unfoldable pub countOf : ℕ → List (List ℕ) → ℕ
+countOf n [] = 0
+countOf n (m ∷ ms) = cond (eqb (numberOf (byte 1 m)) n) 1 0 + countOf n ms
 
 -- the good messages among what a stream handed out, in their order
 unfoldable pub goodIn : List Handed → List (List ℕ)
