@@ -2,6 +2,8 @@
 // specs/Cards.antt, and one statement covers it, proofs/Bench.antt. This program runs the same rows on
 // the code, by the strict rule of escapes and then by the old one: for each verdict a line of card,
 // verdict and reply, then for each zone that is heard a line of card, zone and short flags.
+#![tactic(auto)]
+
 use libc::STDOUT_FILENO;
 use reader::Reader;
 use standard::{Framing, Said};

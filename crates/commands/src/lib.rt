@@ -1,5 +1,7 @@
 // Document 02, No. 1: the line of commands that are repeated until acknowledged, by value. Eight slots
 // go in, and the eight come out with what goes out on the line.
+#![tactic(auto)]
+
 ghost use Rattle.std.specs.Prelude.{◌≡◌, true, false, [], ◌∷◌, ◌<◌, ◌≤◌, length};
 ghost use Rattle.standard.specs.Words.{first_of};
 ghost use Rattle.standard.specs.Messages.{among};

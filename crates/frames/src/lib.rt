@@ -1,5 +1,7 @@
 // What is decided of a frame's bytes without a reader's mode: where a start is, what a digit is
 // worth, which bytes stand plainly on the line, and the judgement of a whole frame.
+#![tactic(auto)]
+
 ghost use Rattle.std.specs.Prelude.{◌≡◌, ℕ, ◌+◌, ◌-◌, ◌*◌, ◌/◌, ◌%◌, ◌≤◌, true, [], length, take, drop, ◌==◌, bit_and, slice_index, slice_index_or, slice_set};
 ghost use Rattle.standard.specs.declared.Framing.TheVariants.{Binary, Ascii};
 ghost use Rattle.standard.specs.Messages.{longest, length_ok, among};

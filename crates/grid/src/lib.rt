@@ -1,6 +1,8 @@
 // Zone maps as float grids (document 02, No. 8): the 256 zones as 16 rows of 16, and the four coarser
 // levels of the map, each as a text header and rows of little-endian f32 in two lent buffers. The
 // table is known here by what it answers about a run of zones.
+#![tactic(auto)]
+
 ghost use Rattle.std.specs.Prelude.{◌≡◌, ◌+◌, ◌*◌, ◌≤◌, ◌<◌, T, length};
 ghost use Rattle.std.specs.Float.{binary32};
 ghost use Rattle.standard.specs.Words.{first_of, Put};

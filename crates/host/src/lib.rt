@@ -1,5 +1,7 @@
 // The host: one call reads up to the first verdict, puts a good message into the table and says
 // the reply. It is the one call that a unit's main loop makes.
+#![tactic(auto)]
+
 ghost use Rattle.std.specs.Prelude.{◌≡◌, ◌+◌, ◌≤◌, length, take, drop};
 ghost use Rattle.standard.specs.Judge.{handed_in};
 ghost use Rattle.standard.specs.Table.{table_after};

@@ -1,5 +1,7 @@
 // Document 01, "The 41 messages": the lengths by number, the checked values, and the verdict on a
 // message. Fields stand as in document 003, whose byte k is `message[k - 1]` here.
+#![tactic(auto)]
+
 ghost use Rattle.std.specs.Prelude.{◌≡◌, true, cond, ◌⊎◌, ◌≤◌, eqb, length};
 ghost use Rattle.standard.specs.Messages.{length_for, within, x10_ok, clock_ok, values_ok, check_of, status_number, is_status};
 

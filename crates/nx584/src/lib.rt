@@ -1,4 +1,6 @@
 // What C calls: include/nx584.h. Numbers, byte slices and structs of numbers cross, no enum.
+#![tactic(auto)]
+
 ghost use Rattle.std.specs.Prelude.{◌≡◌, cond, eqb, [], ◌∷◌, ◌+◌, ◌≤◌, length, take, drop, length as ListN·length};
 ghost use Rattle.std.proofs.Math.Option.{get_or};
 ghost use Rattle.std.specs.Float.{nan};

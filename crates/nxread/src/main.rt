@@ -1,4 +1,6 @@
 // Reads a binary capture on standard input, at most its first 65,536 bytes, and writes its report.
+#![tactic(auto)]
+
 ghost use Rattle.std.specs.Prelude.{◌≡◌, ◌+◌, ◌≤◌, length, take};
 ghost use Rattle.io.specs.Counts.{IsPrefixLen};
 ghost use Rattle.standard.specs.Report.{report_of, longest_report};

@@ -1,5 +1,7 @@
 // The overview of document 01: how many zones of each group and of the site are heard, how many of
 // those are faulted, and the share. The table is known here by what it answers about a zone.
+#![tactic(auto)]
+
 ghost use Rattle.std.specs.Prelude.{◌≡◌, cond, ◌&&◌, suc, ◌+◌, ◌<◌, ◌≤◌, min, ltb, length};
 ghost use Rattle.standard.specs.Table.{table_bytes, is_table};
 ghost use Rattle.standard.specs.Overview.{heard_of, faulted_of, share_of, share_number, counted, heard_from, faulted_from, run_of, seen_of, group_values, overview_values};

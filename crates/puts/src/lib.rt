@@ -1,8 +1,10 @@
 // Bytes put at a place of a lent buffer, so that text is made one part after another: the answer is
 // the place after the part, where the next one is put. A part that does not fit is not put at all,
 // and the answer is its place again.
+#![tactic(auto)]
+
 ghost use Rattle.standard.specs.Words.{PutIfFits};
-ghost use Rattle.standard.specs.Report.{decimal as Report·decimal};
+ghost use Rattle.standard.specs.Report.{decimal};
 
 // Bytes that stand ready.
 pub fn part(out: &mut [u8], place: usize, bytes: &[u8]) -> usize
@@ -20,7 +22,7 @@ pub fn part(out: &mut [u8], place: usize, bytes: &[u8]) -> usize
 
 // A number below 100 in decimal; of a greater one the tens are one character all the same.
 pub fn decimal(out: &mut [u8], place: usize, n: u8) -> usize
-    ensures { PutIfFits out.old place (Report·decimal n) out.new result }
+    ensures { PutIfFits out.old place (decimal n) out.new result }
 {
     if n < 10 {
         return part(out, place, &[48 + n]);

@@ -1,5 +1,7 @@
 // The reader: a byte goes in, the next reader and at most one verdict come out. It is a value; a
 // read goes up to and including the first verdict's byte, or to the end.
+#![tactic(auto)]
+
 ghost use Rattle.std.specs.Prelude.{◌≡◌, true, [], ◌∷◌, ◌++◌, ◌+◌, ◌≤◌, length, get_or};
 ghost use Rattle.standard.specs.declared.Framing.TheVariants.{Binary, Ascii};
 ghost use Rattle.standard.specs.declared.Escapes.{Escapes};

@@ -1,4 +1,6 @@
 // Document 01, "What the host replies": the reply to a verdict and its type byte.
+#![tactic(auto)]
+
 ghost use Rattle.std.specs.Prelude.{◌≡◌};
 ghost use Rattle.standard.specs.Replies.{reply_number, good_reply, reply_of};
 

@@ -1,5 +1,7 @@
 // The line of commands in memory that the host lends: thin functions over `commands`, which does the
 // work by value. Where the slots are not eight, no slot is read: 22.
+#![tactic(auto)]
+
 ghost use Rattle.std.specs.Prelude.{◌≡◌, length};
 ghost use Rattle.commands.specs.Commands.{answer_of, after, row, take_of, tick_of, told_of};
 

@@ -1,8 +1,9 @@
 // The words of document 01 that code hands about, and the few numbers of theirs that more than one
 // crate asks. What they mean stands in specs/, one file for each section of the document.
+#![tactic(auto)]
+
 ghost use Rattle.std.specs.Prelude.{◌≡◌, ◌<◌};
-ghost use Rattle.standard.specs.Framing.{start_of, two_digits};
-ghost use Rattle.standard.specs.Framing.{digit as Framing·digit};
+ghost use Rattle.standard.specs.Framing.{start_of, two_digits, digit};
 ghost use Rattle.standard.specs.Replies.{reply_number};
 
 // The longest message that is read: "Lengths 1 to 255 are now read".
@@ -114,7 +115,7 @@ pub fn two_digits(b: u8) -> [u8; 2]
 
 fn digit(d: u8) -> u8
     requires { d < 16 }
-    ensures { result ≡ Framing·digit d }
+    ensures { result ≡ digit d }
 {
     if d < 10 { 48 + d } else { 55 + d }
 }

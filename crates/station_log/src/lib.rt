@@ -1,6 +1,8 @@
 // Document 02, No. 6: the station log. Good messages of numbers 04 to 08 in memory that the host
 // lends, each with its length behind it, so that the log is read from its end backwards. No. 7:
 // making room in it.
+#![tactic(auto)]
+
 ghost use Rattle.std.specs.Prelude.{◌≡◌, true, [], ◌+◌, ◌≤◌, ◌<◌, eqb, length, get_or, take, drop, set, replicate};
 ghost use Rattle.standard.specs.Words.{byte, laid};
 ghost use Rattle.standard.specs.Messages.{is_status};

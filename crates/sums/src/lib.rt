@@ -1,5 +1,7 @@
 // Document 01, "Sum": sum 1 adds each byte and sum 2 each sum 1. Both are kept in eight bits and
 // wrap as document 003 writes them, and are proved equal to the remainders by 255.
+#![tactic(auto)]
+
 ghost use Rattle.std.specs.Prelude.{◌≡◌, ◌+◌, ◌%◌};
 ghost use Rattle.standard.specs.Sums.{sums_of};
 

@@ -1,6 +1,8 @@
 // Document 01, "The table": 256 zone records of 8 bytes, 8 partition records of 9 and the system
 // record of 12, in memory that the host lends. A message is applied to it, and questions about it
 // are answered; only this crate knows where a record stands.
+#![tactic(auto)]
+
 ghost use Rattle.std.specs.Prelude.{◌≡◌, true, cond, ◌&&◌, ◌+◌, ◌≤◌, ◌<◌, eqb, leb, length, get_or, take, drop};
 ghost use mathlib.Core.List.{[], flat_map};
 ghost use Rattle.standard.specs.Words.{byte, up_to};

@@ -1,5 +1,7 @@
 // The report that `nxread` prints, as bytes in a lent buffer. A function `put..` puts a part of it
 // at a place that has room for it, and answers with the place after it.
+#![tactic(auto)]
+
 ghost use Rattle.std.specs.Prelude.{◌≡◌, ◌+◌, ◌≤◌, ◌<◌, length};
 ghost use mathlib.Core.List.{[], ◌∷◌, flat_map};
 ghost use Rattle.standard.specs.Words.{Put};

@@ -1,6 +1,8 @@
 // The writer: a message becomes a frame, in either framing, in the part of a lent buffer that
 // starts at a place. Whether the frame fits there is decided before a byte is stored; then it goes
 // straight into that part, in one pass over the message.
+#![tactic(auto)]
+
 ghost use Rattle.std.specs.Prelude.{◌≡◌, [], ◌∷◌, ◌+◌, ◌≤◌, length};
 ghost use Rattle.standard.specs.Words.{Put};
 ghost use Rattle.standard.specs.Sums.{sums_of};
