@@ -3,11 +3,11 @@ use borrow.Author.Tests.{le-leb, lt-leb}
 use Rattle.messages.proofs.between.Statement.{statement}
 use Rattle.messages.proofs.between.Tie as tie
 
-returns : tie.Need-returns
-returns c = simp (le-leb _ _ c.if1.true)
+returns-then-low-n : tie.Need-returns-then-low-n
+returns-then-low-n c = simp (le-leb _ _ c.if-low-n.true)
 
-returns-2 : tie.Need-returns-2
-returns-2 c = simp (lt-leb _ _ c.if1.false)
+returns-else-low-n : tie.Need-returns-else-low-n
+returns-else-low-n c = simp (lt-leb _ _ c.if-low-n.false)
 
 pub between_spec : {M : Type 1} → statement M
-between_spec = tie.close (tie.spec returns returns-2)
+between_spec = tie.close (tie.spec returns-then-low-n returns-else-low-n)

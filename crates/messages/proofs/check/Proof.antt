@@ -50,76 +50,76 @@ module _ (m : List ℕ) where
             ∙ sym (number_length (number_of (byte 1 m)) (mod-lt (byte 1 m) (lit< tt)))
 
 -- the message, from past the first two tests, and they from past the third
-abbrev message : tie.Else2 → List ℕ
+abbrev message : tie.Else-message-gt-LONGEST → List ℕ
 message c = c.before.before.before.args.message.now
 
-abbrev past_two : tie.Else3 → tie.Else2
+abbrev past_two : tie.Else-length-eq0 → tie.Else-message-gt-LONGEST
 past_two c = c.before.before.before
 
 -- past the first two tests
-sized : (c : tie.Else2) → Length (length (message c))
-sized c = record { some = omega arith; few = c.if2.false }
+sized : (c : tie.Else-message-gt-LONGEST) → Length (length (message c))
+sized c = record { some = omega arith; few = c.if-message-gt-LONGEST.false }
 
 -- past the third
-known : (c : tie.Else3) → length_for (byte 1 (message (past_two c))) ≡ 0 → ⊥
-known c e = c.if3.false (c.before.length-for.ensures ∙ e)
+known : (c : tie.Else-length-eq0) → length_for (byte 1 (message (past_two c))) ≡ 0 → ⊥
+known c e = c.if-length-eq0.false (c.before.length_for-length.ensures ∙ e)
 
 -- past the fourth
-whole : (c : tie.Else4) → let m = message (past_two c.before) in length m ≡ length_for (byte 1 m)
-whole c = c.if4.false ∙ c.before.before.length-for.ensures
+whole : (c : tie.Else-message-length) → let m = message (past_two c.before) in length m ≡ length_for (byte 1 m)
+whole c = c.if-message-length.false ∙ c.before.before.length_for-length.ensures
 
-returns : tie.Need-returns
-returns c = empty _ c.if1.true
+returns-then-message-eq0 : tie.Need-returns-then-message-eq0
+returns-then-message-eq0 c = empty _ c.if-message-eq0.true
 
-returns-2 : tie.Need-returns-2
-returns-2 c = long _ c.if2.true
+returns-then-message-gt-LONGEST : tie.Need-returns-then-message-gt-LONGEST
+returns-then-message-gt-LONGEST c = long _ c.if-message-gt-LONGEST.true
 
-shared-slice-read-type-byte : tie.Need-shared-slice-read-type-byte
-shared-slice-read-type-byte c = search rules
+bounds-message-0 : tie.Need-bounds-message-0
+bounds-message-0 c = search rules
 
-length-for-requires : tie.Need-length-for-requires
-length-for-requires c κs = search rules
+length_for-length-requires : tie.Need-length_for-length-requires
+length_for-length-requires c κs = search rules
 
-returns-3 : tie.Need-returns-3
-returns-3 c =
+returns-then-length-eq0 : tie.Need-returns-then-length-eq0
+returns-then-length-eq0 c =
     let past = c.before.before.before in
-    unknown _ (sized past) (sym c.before.length-for.ensures ∙ c.if3.true)
+    unknown _ (sized past) (sym c.before.length_for-length.ensures ∙ c.if-length-eq0.true)
 
-cast-if4 : tie.Need-overflow-cast-if4
-cast-if4 c = search rules
+overflow_cast-length : tie.Need-overflow_cast-length
+overflow_cast-length c = search rules
 
-returns-4 : tie.Need-returns-4
-returns-4 c =
+returns-then-message-length : tie.Need-returns-then-message-length
+returns-then-message-length c =
     let past = c.before in
-    other _ (sized (past_two past)) (known past) (λ e. c.if4.true (e ∙ sym past.before.length-for.ensures))
+    other _ (sized (past_two past)) (known past) (λ e. c.if-message-length.true (e ∙ sym past.before.length_for-length.ensures))
 
-values-ok-requires : tie.Need-values-ok-requires
-values-ok-requires c κs =
+values_ok-requires : tie.Need-values_ok-requires
+values_ok-requires c κs =
     let two = past_two c.before in of_number (message two) (sized two) (known c.before) (whole c)
 
-returns-5 : tie.Need-returns-5
-returns-5 c =
+returns-then-values_ok : tie.Need-returns-then-values_ok
+returns-then-values_ok c =
     let past = c.before.before in
     good _ (sized (past_two past.before)) (known past.before) (whole past)
-    (sym c.before.values-ok.ensures ∙ c.if5.true)
+    (sym c.before.values_ok.ensures ∙ c.if-values_ok.true)
 
-returns-6 : tie.Need-returns-6
-returns-6 c =
+returns-else-values_ok : tie.Need-returns-else-values_ok
+returns-else-values_ok c =
     let past = c.before.before in
     wrong _ (sized (past_two past.before)) (known past.before) (whole past)
-    (sym c.before.values-ok.ensures ∙ c.if5.false)
+    (sym c.before.values_ok.ensures ∙ c.if-values_ok.false)
 
 pub check_spec : {M : Type 1} → statement M
 check_spec =
     tie.close
     (tie.spec
-    returns
-    returns-2
-    shared-slice-read-type-byte
-    length-for-requires
-    returns-3
-    cast-if4
-    returns-4
-    values-ok-requires
-    returns-5
-    returns-6)
+    returns-then-message-eq0
+    returns-then-message-gt-LONGEST
+    bounds-message-0
+    length_for-length-requires
+    returns-then-length-eq0
+    overflow_cast-length
+    returns-then-message-length
+    values_ok-requires
+    returns-then-values_ok
+    returns-else-values_ok)

@@ -35,80 +35,80 @@ abbrev to_minute : List ℕ → Bool
 to_minute m = to_hour m && leb (byte 6 m) 59
 
 -- the message, from where the ways meet after the month and after the hour
-abbrev at_month : tie.Joined1 → List ℕ
+abbrev at_month : tie.Joined-message-le99 → List ℕ
 at_month c = c.before.before.before.args.message.now
 
-abbrev at_hour : tie.Joined3 → List ℕ
+abbrev at_hour : tie.Joined-between-2 → List ℕ
 at_hour c = at_month c.before.before
 
-to_month_lem : (c : tie.Joined1) → c.if1.if2 ≡ to_month (at_month c)
+to_month_lem : (c : tie.Joined-message-le99) → c.if-message-le99.value ≡ to_month (at_month c)
 to_month_lem c =
-    ⊎_elim (λ w. past_true refl (le-leb _ _ w.0.taken) (w.3 ∙ w.2.ensures))
-    (λ w. past_false _ refl (lt-leb _ _ w.0.left) w.1)
-    c.if1.branch
+    ⊎_elim (λ w. past_true refl (le-leb _ _ w.if-message-le99.true) (w.value-is ∙ w.between.ensures))
+    (λ w. past_false _ refl (lt-leb _ _ w.if-message-le99.false) w.value-is)
+    c.if-message-le99.branch-raw
 
-to_day_lem : (c : tie.Joined2) → c.if2.if3 ≡ to_day (at_month c.before)
+to_day_lem : (c : tie.Joined-between) → c.if-between.value ≡ to_day (at_month c.before)
 to_day_lem c =
-    ⊎_elim (λ w. past_true (to_month_lem c.before) w.0.taken (w.3 ∙ w.2.ensures))
-    (λ w. past_false _ (to_month_lem c.before) w.0.left w.1)
-    c.if2.branch
+    ⊎_elim (λ w. past_true (to_month_lem c.before) w.if-between.true (w.value-is ∙ w.between-then-between.ensures))
+    (λ w. past_false _ (to_month_lem c.before) w.if-between.false w.value-is)
+    c.if-between.branch-raw
 
-to_hour_lem : (c : tie.Joined3) → c.if3.if4 ≡ to_hour (at_hour c)
+to_hour_lem : (c : tie.Joined-between-2) → c.if-between-2.value ≡ to_hour (at_hour c)
 to_hour_lem c =
-    ⊎_elim (λ w. past_true (to_day_lem c.before) w.0.taken w.2)
-    (λ w. past_false _ (to_day_lem c.before) w.0.left w.1) c.if3.branch
+    ⊎_elim (λ w. past_true (to_day_lem c.before) w.if-between-2.true w.value-is)
+    (λ w. past_false _ (to_day_lem c.before) w.if-between-2.false w.value-is) c.if-between-2.branch-raw
 
-to_minute_lem : (c : tie.Joined4) → c.if4.if5 ≡ to_minute (at_hour c.before)
+to_minute_lem : (c : tie.Joined-message-le23) → c.if-message-le23.value ≡ to_minute (at_hour c.before)
 to_minute_lem c =
-    ⊎_elim (λ w. past_true (to_hour_lem c.before) w.0.taken w.2)
-    (λ w. past_false _ (to_hour_lem c.before) w.0.left w.1) c.if4.branch
+    ⊎_elim (λ w. past_true (to_hour_lem c.before) w.if-message-le23.true w.value-is)
+    (λ w. past_false _ (to_hour_lem c.before) w.if-message-le23.false w.value-is) c.if-message-le23.branch-raw
 
-shared-slice-read-if1 : tie.Need-shared-slice-read-if1
-shared-slice-read-if1 c = search rules
+bounds-message-1 : tie.Need-bounds-message-1
+bounds-message-1 c = search rules
 
-shared-slice-read-between : tie.Need-shared-slice-read-between
-shared-slice-read-between c = search rules
+bounds-message-2 : tie.Need-bounds-message-2
+bounds-message-2 c = search rules
 
 between-requires : tie.Need-between-requires
 between-requires c κs = search rules
 
-shared-slice-read-between-2 : tie.Need-shared-slice-read-between-2
-shared-slice-read-between-2 c = search rules
+bounds-message-3 : tie.Need-bounds-message-3
+bounds-message-3 c = search rules
 
-between-requires-2 : tie.Need-between-requires-2
-between-requires-2 c κs = search rules
+between-requires-then-between : tie.Need-between-requires-then-between
+between-requires-then-between c κs = search rules
 
-shared-slice-read-if4 : tie.Need-shared-slice-read-if4
-shared-slice-read-if4 c = search rules
+bounds-message-4 : tie.Need-bounds-message-4
+bounds-message-4 c = search rules
 
-shared-slice-read-if5 : tie.Need-shared-slice-read-if5
-shared-slice-read-if5 c = search rules
+bounds-message-5 : tie.Need-bounds-message-5
+bounds-message-5 c = search rules
 
-shared-slice-read-between-3 : tie.Need-shared-slice-read-between-3
-shared-slice-read-between-3 c = search rules
+bounds-message-6 : tie.Need-bounds-message-6
+bounds-message-6 c = search rules
 
-between-requires-3 : tie.Need-between-requires-3
-between-requires-3 c κs = search rules
+between-requires-then-message-le59 : tie.Need-between-requires-then-message-le59
+between-requires-then-message-le59 c κs = search rules
 
-returns : tie.Need-returns
-returns c =
-    let kept = c.before.before in past_true (to_minute_lem kept.before) kept.if5.true c.between3.ensures
+returns-then-message-le59 : tie.Need-returns-then-message-le59
+returns-then-message-le59 c =
+    let kept = c.before.before in past_true (to_minute_lem kept.before) kept.if-message-le59.true c.between-then-message-le59.ensures
 
-returns-2 : tie.Need-returns-2
-returns-2 c = past_false _ (to_minute_lem c.before) c.if5.false refl
+returns-else-message-le59 : tie.Need-returns-else-message-le59
+returns-else-message-le59 c = past_false _ (to_minute_lem c.before) c.if-message-le59.false refl
 
 pub clock_ok_spec : {M : Type 1} → statement M
 clock_ok_spec =
     tie.close
     (tie.spec
-    shared-slice-read-if1
-    shared-slice-read-between
+    bounds-message-1
+    bounds-message-2
     between-requires
-    shared-slice-read-between-2
-    between-requires-2
-    shared-slice-read-if4
-    shared-slice-read-if5
-    shared-slice-read-between-3
-    between-requires-3
-    returns
-    returns-2)
+    bounds-message-3
+    between-requires-then-between
+    bounds-message-4
+    bounds-message-5
+    bounds-message-6
+    between-requires-then-message-le59
+    returns-then-message-le59
+    returns-else-message-le59)

@@ -7,36 +7,36 @@ use Rattle.standard.proofs.Messages.{values_function_pin, values_function, value
 use Rattle.messages.proofs.function_ok.Statement.{statement}
 use Rattle.messages.proofs.function_ok.Tie as tie
 
-secondary : (c : tie.At-match-rest) → c.before.args.number ≡ 0x3E
-secondary c = omega (arith, c.match.rest.0.1, c.match.rest.1)
+secondary : (c : tie.In_default) → c.before.args.number ≡ 0x3E
+secondary c = omega (arith, c.in_default.in_default-own.rest.0.1, c.in_default.in_default-own.rest.1)
 
-shared-slice-read-result : tie.Need-shared-slice-read-result
+bounds-message-4 : tie.Need-bounds-message-4
 unfolding length_for
-shared-slice-read-result c =
-    let size = c.before.before.requires.1 ∙ ap length_for c.before.match.keys1 in omega arith
+bounds-message-4 c =
+    let size = c.before.before.requires.1 ∙ ap length_for c.before.in-60.is in omega arith
 
-shared-slice-read-result-2 : tie.Need-shared-slice-read-result-2
+bounds-message-1 : tie.Need-bounds-message-1
 unfolding length_for
-shared-slice-read-result-2 c =
-    let size = c.before.before.requires.1 ∙ ap length_for c.before.match.keys2 in omega arith
+bounds-message-1 c =
+    let size = c.before.before.requires.1 ∙ ap length_for c.before.in-61.is in omega arith
 
-shared-slice-read-result-3 : tie.Need-shared-slice-read-result-3
+bounds-message-1-in_default : tie.Need-bounds-message-1-in_default
 unfolding length_for
-shared-slice-read-result-3 c =
+bounds-message-1-in_default c =
     let size = c.before.before.requires.1 ∙ ap length_for (secondary c.before) in omega arith
 
-returns : tie.Need-returns
-returns c =
+returns-in-60 : tie.Need-returns-in-60
+returns-in-60 c =
     let a = c.before.before.args in
-    sym (values_function_pin a.message.now a.number c.before.match.keys1)
+    sym (values_function_pin a.message.now a.number c.before.in-60.is)
 
-returns-2 : tie.Need-returns-2
-returns-2 c =
+returns-in-61 : tie.Need-returns-in-61
+returns-in-61 c =
     let a = c.before.before.args in
-    sym (values_function a.message.now a.number c.before.match.keys2)
+    sym (values_function a.message.now a.number c.before.in-61.is)
 
-returns-3 : tie.Need-returns-3
-returns-3 c =
+returns-in_default : tie.Need-returns-in_default
+returns-in_default c =
     let a = c.before.before.args in
     sym (values_secondary a.message.now a.number (secondary c.before))
 
@@ -44,9 +44,9 @@ pub function_ok_spec : {M : Type 1} → statement M
 function_ok_spec =
     tie.close
     (tie.spec
-    shared-slice-read-result
-    shared-slice-read-result-2
-    shared-slice-read-result-3
-    returns
-    returns-2
-    returns-3)
+    bounds-message-4
+    bounds-message-1
+    bounds-message-1-in_default
+    returns-in-60
+    returns-in-61
+    returns-in_default)

@@ -15,57 +15,57 @@ use Rattle.messages.proofs.is_status.Statement.{statement}
 use Rattle.messages.proofs.is_status.Tie as tie
 
 -- past the second test
-one : (c : tie.Else2)
+one : (c : tie.Else-not-between)
     → let m = c.before.before.before.before.before.args.message.now in status_number (byte 1 m % 128) ≡ true
-one c = sym c.before.between.ensures ∙ not-false _ c.if2.false
+one c = sym c.before.between.ensures ∙ not-false _ c.if-not-between.false-raw
 
-returns : tie.Need-returns
-returns c = let h = c.if1.true in sym (short_status c.before.before.args.message.now (omega arith))
+returns-then-n-lt2 : tie.Need-returns-then-n-lt2
+returns-then-n-lt2 c = let h = c.if-n-lt2.true in sym (short_status c.before.before.args.message.now (omega arith))
 
-shared-slice-read-number : tie.Need-shared-slice-read-number
-shared-slice-read-number c = search rules
+bounds-message-0 : tie.Need-bounds-message-0
+bounds-message-0 c = search rules
 
 between-requires : tie.Need-between-requires
 between-requires c κs = search rules
 
-returns-2 : tie.Need-returns-2
-returns-2 c =
+returns-then-not-between : tie.Need-returns-then-not-between
+returns-then-not-between c =
     let call = c.before in
     let m = call.before.before.before.before.args.message.now in
-    let none = sym call.between.ensures ∙ not-true _ c.if2.true in
+    let none = sym call.between.ensures ∙ not-true _ c.if-not-between.true-raw in
     sym (other_status m (λ b. false≢true (sym none ∙ five_number (byte 1 m % 128) b)))
 
-status-length-requires : tie.Need-status-length-requires
-status-length-requires c κs = one c
+status_length-requires : tie.Need-status_length-requires
+status_length-requires c κs = one c
 
-cast-result : tie.Need-overflow-cast-result
-cast-result c = search rules
+overflow_cast-result : tie.Need-overflow_cast-result
+overflow_cast-result c = search rules
 
-shared-slice-read-result : tie.Need-shared-slice-read-result
-shared-slice-read-result c = search rules
+bounds-message-1 : tie.Need-bounds-message-1
+bounds-message-1 c = search rules
 
-second-most-requires : tie.Need-second-most-requires
-second-most-requires c κs = search rules
+second_most-requires : tie.Need-second_most-requires
+second_most-requires c κs = search rules
 
-returns-3 : tie.Need-returns-3
-returns-3 c =
+returns : tie.Need-returns
+returns c =
     let sized = c.before.before in
     let past = sized.before in
     let m = past.before.before.before.before.before.args.message.now in
-    let small : byte 2 m < 256 = omega (arith, c.before.shared-slice-known3.given 1) in
-    ap₂ (λ (a b : ℕ). eqb (length m) a && leb (byte 2 m) b) sized.status_length_lem.ensures c.second-most.ensures
+    let small : byte 2 m < 256 = omega (arith, c.before.shared_slice_known-3-1.given 1) in
+    ap₂ (λ (a b : ℕ). eqb (length m) a && leb (byte 2 m) b) sized.status_length.ensures c.second_most.ensures
     ∙ sym (status_by m (byte 1 m % 128) refl (one past) small)
 
 pub is_status_spec : {M : Type 1} → statement M
 is_status_spec =
     tie.close
     (tie.spec
-    returns
-    shared-slice-read-number
+    returns-then-n-lt2
+    bounds-message-0
     between-requires
-    returns-2
-    status-length-requires
-    cast-result
-    shared-slice-read-result
-    second-most-requires
-    returns-3)
+    returns-then-not-between
+    status_length-requires
+    overflow_cast-result
+    bounds-message-1
+    second_most-requires
+    returns)

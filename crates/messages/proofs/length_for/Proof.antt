@@ -24,27 +24,27 @@ entry : (table : List ℕ) (number : ℕ) → T (every right 0 table) → number
     → get_or table number 0 ≡ length_in known number
 entry table number t h = eqb→eq (get_or table number 0) (length_in known number) (at right table t number h)
 
-cast-result : tie.Need-overflow-cast-result
-cast-result c = search rules
+overflow_cast-result : tie.Need-overflow_cast-result
+overflow_cast-result c = search rules
 
-array-read-result : tie.Need-array-read-result
-array-read-result c = search rules
+bounds-type_byte : tie.Need-bounds-type_byte
+bounds-type_byte c = search rules
 
-returns : tie.Need-returns
+returns-then-type_byte-eq0 : tie.Need-returns-then-type_byte-eq0
 unfolding length_for
-returns c =
-    let t = c.before.args.type-byte in
-    let clear : bit 6 t ≡ 0 = c.if1.true in
+returns-then-type_byte-eq0 c =
+    let t = c.before.args.type_byte in
+    let clear : bit 6 t ≡ 0 = c.if-type_byte-eq0.true in
     let number : t % 64 < 64 = mod-lt t (lit< tt) in
     let tested : Unit {0} = tt in
     rw (eq-eqb (bit 6 t) 0 clear, entry)
 
-returns-2 : tie.Need-returns-2
+returns-else-type_byte-eq0 : tie.Need-returns-else-type_byte-eq0
 unfolding length_for
-returns-2 c =
-    let t = c.before.args.type-byte in
-    let set : bit 6 t ≡ 0 → ⊥ = c.if1.false in
+returns-else-type_byte-eq0 c =
+    let t = c.before.args.type_byte in
+    let set : bit 6 t ≡ 0 → ⊥ = c.if-type_byte-eq0.false in
     rw (ne_eqb (bit 6 t) 0 set)
 
 pub length_for_spec : {M : Type 1} → statement M
-length_for_spec = tie.close (tie.spec cast-result array-read-result returns returns-2)
+length_for_spec = tie.close (tie.spec overflow_cast-result bounds-type_byte returns-then-type_byte-eq0 returns-else-type_byte-eq0)

@@ -23,38 +23,38 @@ request_mask = alike (λ b. eqb (bit_and b 0xB0) 0) (λ b. clear 4 b && clear 5 
 command_mask : (b : ℕ) → b < 256 → eqb (bit_and b 0xA0) 0x20 ≡ (not (clear 5 b) && clear 7 b)
 command_mask = alike (λ b. eqb (bit_and b 0xA0) 0x20) (λ b. not (clear 5 b) && clear 7 b) 256 tt
 
-command : (c : tie.At-match-rest) → c.before.args.number ≡ 0x31
-command c = ⊎_elim (λ e. absurd (c.match.rest.0.1 e)) (λ h. omega (arith, c.match.rest.1)) c.before.requires.0
+command : (c : tie.In_default) → c.before.args.number ≡ 0x31
+command c = ⊎_elim (λ e. absurd (c.in_default.in_default-own.rest.0.1 e)) (λ h. omega (arith, c.in_default.in_default-own.rest.1)) c.before.requires.0
 
-shared-slice-read-result : tie.Need-shared-slice-read-result
+bounds-message-2 : tie.Need-bounds-message-2
 unfolding length_for
-shared-slice-read-result c =
-    let size = c.before.before.requires.1 ∙ ap length_for c.before.match.keys1 in omega arith
+bounds-message-2 c =
+    let size = c.before.before.requires.1 ∙ ap length_for c.before.in-16.is in omega arith
 
-shared-slice-read-result-2 : tie.Need-shared-slice-read-result-2
+bounds-message-2-in-48 : tie.Need-bounds-message-2-in-48
 unfolding length_for
-shared-slice-read-result-2 c =
-    let size = c.before.before.requires.1 ∙ ap length_for c.before.match.keys2 in omega arith
+bounds-message-2-in-48 c =
+    let size = c.before.before.requires.1 ∙ ap length_for c.before.in-48.is in omega arith
 
-shared-slice-read-result-3 : tie.Need-shared-slice-read-result-3
+bounds-message-2-in_default : tie.Need-bounds-message-2-in_default
 unfolding length_for
-shared-slice-read-result-3 c = let size = c.before.before.requires.1 ∙ ap length_for (command c.before) in omega arith
+bounds-message-2-in_default c = let size = c.before.before.requires.1 ∙ ap length_for (command c.before) in omega arith
 
-returns : tie.Need-returns
-returns c =
-    reply_mask (get_or c.before.before.args.message.now 2 0) (omega (arith, c.shared-slice-known.given 2))
+returns-in-16 : tie.Need-returns-in-16
+returns-in-16 c =
+    reply_mask (get_or c.before.before.args.message.now 2 0) (omega (arith, c.shared_slice_known-1.given 2))
     ∙ sym
-    (values_reply c.before.before.args.message.now c.before.before.args.number c.before.match.keys1)
+    (values_reply c.before.before.args.message.now c.before.before.args.number c.before.in-16.is)
 
-returns-2 : tie.Need-returns-2
-returns-2 c =
-    request_mask (get_or c.before.before.args.message.now 2 0) (omega (arith, c.shared-slice-known2.given 2))
+returns-in-48 : tie.Need-returns-in-48
+returns-in-48 c =
+    request_mask (get_or c.before.before.args.message.now 2 0) (omega (arith, c.shared_slice_known-in-48-1.given 2))
     ∙ sym
-    (values_request c.before.before.args.message.now c.before.before.args.number c.before.match.keys2)
+    (values_request c.before.before.args.message.now c.before.before.args.number c.before.in-48.is)
 
-returns-3 : tie.Need-returns-3
-returns-3 c =
-    command_mask (get_or c.before.before.args.message.now 2 0) (omega (arith, c.shared-slice-known3.given 2))
+returns-in_default : tie.Need-returns-in_default
+returns-in_default c =
+    command_mask (get_or c.before.before.args.message.now 2 0) (omega (arith, c.shared_slice_known-in_default-1.given 2))
     ∙ sym
     (values_command c.before.before.args.message.now c.before.before.args.number (command c.before))
 
@@ -62,9 +62,9 @@ pub location_ok_spec : {M : Type 1} → statement M
 location_ok_spec =
     tie.close
     (tie.spec
-    shared-slice-read-result
-    shared-slice-read-result-2
-    shared-slice-read-result-3
-    returns
-    returns-2
-    returns-3)
+    bounds-message-2
+    bounds-message-2-in-48
+    bounds-message-2-in_default
+    returns-in-16
+    returns-in-48
+    returns-in_default)

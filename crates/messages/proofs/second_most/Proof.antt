@@ -4,15 +4,15 @@ use borrow.Author.Tests.{ne_eqb}
 use Rattle.messages.proofs.second_most.Statement.{statement}
 use Rattle.messages.proofs.second_most.Tie as tie
 
-returns : tie.Need-returns
-returns c = rw c.match.keys1
+returns-in-5 : tie.Need-returns-in-5
+returns-in-5 c = rw c.in-5.is
 
-returns-2 : tie.Need-returns-2
-returns-2 c = rw c.match.keys2
+returns-in-6 : tie.Need-returns-in-6
+returns-in-6 c = rw c.in-6.is
 
-returns-3 : tie.Need-returns-3
-returns-3 c =
-    let n = c.before.args.number in rw (ne_eqb n 0x05 c.match.rest.0.1, ne_eqb n 0x06 c.match.rest.1)
+returns-in_default : tie.Need-returns-in_default
+returns-in_default c =
+    let n = c.before.args.number in rw (ne_eqb n 0x05 c.in_default.in_default-own.rest.0.1, ne_eqb n 0x06 c.in_default.in_default-own.rest.1)
 
 pub second_most_spec : {M : Type 1} → statement M
-second_most_spec = tie.close (tie.spec returns returns-2 returns-3)
+second_most_spec = tie.close (tie.spec returns-in-5 returns-in-6 returns-in_default)

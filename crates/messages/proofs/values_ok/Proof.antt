@@ -29,146 +29,153 @@ has : (m : List ℕ) (n place : ℕ) (ks : List ℕ) → length m ≡ length_for
     → place < length m
 has m n place ks e p h = subst (λ size. place < size) (sym e) (one_of (λ k. place < length_for k) ks n p h)
 
--- no rule is for the numbers that are left
-unchecked : (c : tie.At-match-rest)
-    → (c.before.before.args.number ≡ 0x30 → ⊥)
-    → (c.before.before.args.number ≡ 0x31 → ⊥)
-    → (c.before.before.args.number ≡ 0x3C → ⊥)
-    → (c.before.before.args.number ≡ 0x3D → ⊥)
-    → (c.before.before.args.number ≡ 0x3E → ⊥)
-    → true ≡ values_ok c.before.before.args.number c.before.before.args.message.now
-unchecked c a b d e f =
-    let a₇ = c.match.rest in
+-- what the last arm knows of a number, and that no rule is for the numbers that are left
+abbrev Rest : ℕ → Type 0
+Rest n =
+    ((((((Unit {0} × (OneOf (0x05 ∷ 0x25 ∷ []) n → ⊥)) × (OneOf (0x06 ∷ 0x26 ∷ []) n → ⊥))
+    × (OneOf (0x09 ∷ 0x29 ∷ []) n → ⊥)) × (OneOf (0x0B ∷ []) n → ⊥)) × (OneOf (0x2B ∷ []) n → ⊥))
+    × (OneOf (0x10 ∷ []) n → ⊥)) × (OneOf (0x3B ∷ []) n → ⊥)
+
+unchecked : (n : ℕ) (m : List ℕ)
+    → Rest n
+    → (n ≡ 0x30 → ⊥)
+    → (n ≡ 0x31 → ⊥)
+    → (n ≡ 0x3C → ⊥)
+    → (n ≡ 0x3D → ⊥)
+    → (n ≡ 0x3E → ⊥)
+    → true ≡ values_ok n m
+unchecked n m a₇ a b d e f =
     let a₆ = a₇.0 in
     let a₅ = a₆.0 in
     let a₄ = a₅.0 in
     let a₃ = a₄.0 in
     let a₂ = a₃.0 in
-    sym (values_other _ _ a₂.0.1 a₂.1 a₃.1 a₄.1 a₅.1 a₆.1 a b a₇.1 d e f)
+    sym (values_other m n a₂.0.1 a₂.1 a₃.1 a₄.1 a₅.1 a₆.1 a b a₇.1 d e f)
 
-shared-slice-read-result : tie.Need-shared-slice-read-result
+bounds-message-1 : tie.Need-bounds-message-1
 unfolding length_for
-shared-slice-read-result c =
+bounds-message-1 c =
     let arm = c.before in
     let s = arm.before.before in
-    has s.args.message.now s.args.number 1 (0x05 ∷ 0x25 ∷ []) s.requires (lit< tt, lit< tt) arm.match.keys1
+    has s.args.message.now s.args.number 1 (0x05 ∷ 0x25 ∷ []) s.requires (lit< tt, lit< tt) arm.in-5.is
 
-shared-slice-read-result-2 : tie.Need-shared-slice-read-result-2
+bounds-message-1-in-6 : tie.Need-bounds-message-1-in-6
 unfolding length_for
-shared-slice-read-result-2 c =
+bounds-message-1-in-6 c =
     let arm = c.before in
     let s = arm.before.before in
-    has s.args.message.now s.args.number 1 (0x06 ∷ 0x26 ∷ []) s.requires (lit< tt, lit< tt) arm.match.keys2
+    has s.args.message.now s.args.number 1 (0x06 ∷ 0x26 ∷ []) s.requires (lit< tt, lit< tt) arm.in-6.is
 
-x10-ok-requires : tie.Need-x10-ok-requires
+x10_ok-requires : tie.Need-x10_ok-requires
 unfolding length_for
-x10-ok-requires c κs =
+x10_ok-requires c κs =
     let s = c.before.before in
-    s.requires ∙ one_of (λ n. length_for n ≡ 4) (0x09 ∷ 0x29 ∷ []) s.args.number (refl, refl) c.match.keys3
+    s.requires ∙ one_of (λ n. length_for n ≡ 4) (0x09 ∷ 0x29 ∷ []) s.args.number (refl, refl) c.in-9.is
 
-shared-slice-read-result-3 : tie.Need-shared-slice-read-result-3
+bounds-message-2 : tie.Need-bounds-message-2
 unfolding length_for
-shared-slice-read-result-3 c =
+bounds-message-2 c =
     let arm = c.before in
     let s = arm.before.before in
-    has s.args.message.now s.args.number 2 (0x0B ∷ []) s.requires (lit< tt) arm.match.keys4
+    has s.args.message.now s.args.number 2 (0x0B ∷ []) s.requires (lit< tt) arm.in-11.is
 
-shared-slice-read-result-4 : tie.Need-shared-slice-read-result-4
+bounds-message-2-in-43 : tie.Need-bounds-message-2-in-43
 unfolding length_for
-shared-slice-read-result-4 c =
+bounds-message-2-in-43 c =
     let arm = c.before in
     let s = arm.before.before in
-    has s.args.message.now s.args.number 2 (0x2B ∷ []) s.requires (lit< tt) arm.match.keys5
+    has s.args.message.now s.args.number 2 (0x2B ∷ []) s.requires (lit< tt) arm.in-43.is
 
-clock-ok-requires : tie.Need-clock-ok-requires
+clock_ok-requires : tie.Need-clock_ok-requires
 unfolding length_for
-clock-ok-requires c κs =
+clock_ok-requires c κs =
     let s = c.before.before in
-    s.requires ∙ one_of (λ n. length_for n ≡ 7) (0x3B ∷ []) s.args.number refl c.match.keys7
+    s.requires ∙ one_of (λ n. length_for n ≡ 7) (0x3B ∷ []) s.args.number refl c.in-59.is
 
-function-ok-requires : tie.Need-function-ok-requires
-function-ok-requires c κs = search rules
+function_ok-requires : tie.Need-function_ok-requires
+function_ok-requires c κs = search rules
 
-location-ok-requires : tie.Need-location-ok-requires
-location-ok-requires c κs =
-    (⊎_elim (λ w. inl w.keys6) (λ w. inr (w.1.left, omega arith)) c.match.branch, c.before.before.requires)
+location_ok-requires : tie.Need-location_ok-requires
+location_ok-requires c κs =
+    (⊎_elim (λ w. inl w.in-16-1.keys6) (λ w. inr (omega arith, omega arith)) c.in-16-1.branch-raw, c.requires)
 
-returns : tie.Need-returns
-returns c =
+returns-in-5 : tie.Need-returns-in-5
+returns-in-5 c =
     let arm = c.before in
     let s = arm.before.before in
-    sym (values_offset s.args.message.now s.args.number arm.match.keys1)
+    sym (values_offset s.args.message.now s.args.number arm.in-5.is)
 
-returns-2 : tie.Need-returns-2
-returns-2 c =
+returns-in-6 : tie.Need-returns-in-6
+returns-in-6 c =
     let arm = c.before in
     let s = arm.before.before in
-    sym (values_partition s.args.message.now s.args.number arm.match.keys2)
+    sym (values_partition s.args.message.now s.args.number arm.in-6.is)
 
-returns-3 : tie.Need-returns-3
-returns-3 c =
+returns-in-9 : tie.Need-returns-in-9
+returns-in-9 c =
     let arm = c.before in
     let s = arm.before.before in
-    c.x10-ok.ensures ∙ sym (values_x10 s.args.message.now s.args.number arm.match.keys3)
+    c.x10_ok.ensures ∙ sym (values_x10 s.args.message.now s.args.number arm.in-9.is)
 
-returns-4 : tie.Need-returns-4
-returns-4 c =
+returns-in-11 : tie.Need-returns-in-11
+returns-in-11 c =
     let arm = c.before in
     let s = arm.before.before in
-    sym (values_key s.args.message.now s.args.number arm.match.keys4)
+    sym (values_key s.args.message.now s.args.number arm.in-11.is)
 
-returns-5 : tie.Need-returns-5
-returns-5 c =
+returns-in-43 : tie.Need-returns-in-43
+returns-in-43 c =
     let arm = c.before in
     let s = arm.before.before in
-    sym (values_keypad s.args.message.now s.args.number arm.match.keys5)
+    sym (values_keypad s.args.message.now s.args.number arm.in-43.is)
 
-returns-6 : tie.Need-returns-6
-returns-6 c =
+returns-in-59 : tie.Need-returns-in-59
+returns-in-59 c =
     let arm = c.before in
     let s = arm.before.before in
-    c.clock-ok.ensures ∙ sym (values_clock s.args.message.now s.args.number arm.match.keys7)
+    c.clock_ok.ensures ∙ sym (values_clock s.args.message.now s.args.number arm.in-59.is)
 
-returns-7 : tie.Need-returns-7
-returns-7 c = search rules
+returns-in-60-to-62 : tie.Need-returns-in-60-to-62
+returns-in-60-to-62 c = search rules
 
-returns-8 : tie.Need-returns-8
-returns-8 c =
-    unchecked c.before (λ e. omega arith) (λ e. omega arith) (λ e. omega arith) (λ e. omega arith) (λ e. omega arith)
+returns-in_default : tie.Need-returns-in_default
+returns-in_default c =
+    unchecked c.args.number c.args.message.now c.in_default.in_default-own.rest (λ e. omega arith) (λ e. omega arith)
+    (λ e. omega arith) (λ e. omega arith) (λ e. omega arith)
 
-returns-9 : tie.Need-returns-9
-returns-9 c =
-    let arm = c.before.before.before in
-    unchecked arm (λ e. omega arith) (λ e. omega arith) (λ e. omega arith) (λ e. omega arith) (λ e. omega arith)
+returns-in_default-2 : tie.Need-returns-in_default-2
+returns-in_default-2 c =
+    unchecked c.args.number c.args.message.now c.in_default.in_default-own.rest (λ e. omega arith) (λ e. omega arith)
+    (λ e. omega arith) (λ e. omega arith) (λ e. omega arith)
 
-returns-10 : tie.Need-returns-10
-returns-10 c =
-    let arm = c.before.before.before.before in
-    unchecked arm (λ e. omega arith) (λ e. omega arith) (λ e. omega arith) (λ e. omega arith) (λ e. omega arith)
+returns-in_default-3 : tie.Need-returns-in_default-3
+returns-in_default-3 c =
+    unchecked c.args.number c.args.message.now c.in_default.in_default-own.rest (λ e. omega arith) (λ e. omega arith)
+    (λ e. omega arith) (λ e. omega arith) (λ e. omega arith)
 
-returns-11 : tie.Need-returns-11
-returns-11 c = search rules
+returns-in-16 : tie.Need-returns-in-16
+returns-in-16 c = search rules
 
 pub values_ok_spec : {M : Type 1} → statement M
 values_ok_spec =
     tie.close
     (tie.spec
-    shared-slice-read-result
-    shared-slice-read-result-2
-    x10-ok-requires
-    shared-slice-read-result-3
-    shared-slice-read-result-4
-    clock-ok-requires
-    function-ok-requires
-    location-ok-requires
-    returns
-    returns-2
-    returns-3
-    returns-4
-    returns-5
-    returns-6
-    returns-7
-    returns-8
-    returns-9
-    returns-10
-    returns-11)
+    bounds-message-1
+    bounds-message-1-in-6
+    x10_ok-requires
+    bounds-message-2
+    bounds-message-2-in-43
+    clock_ok-requires
+    function_ok-requires
+    location_ok-requires
+    returns-in-5
+    returns-in-6
+    returns-in-9
+    returns-in-11
+    returns-in-43
+    returns-in-59
+    returns-in-60-to-62
+    returns-in_default
+    returns-in_default-2
+    returns-in_default-3
+    returns-in-16)

@@ -45,41 +45,41 @@ module _ (m : List ℕ) (house : byte 2 m ≤ 15) where
         ne_eqb (byte 4 m) 0x68 (λ e. any (inr (inr e))),
       )
 
-shared-slice-read-if1 : tie.Need-shared-slice-read-if1
-shared-slice-read-if1 c = search rules
+bounds-message-1 : tie.Need-bounds-message-1
+bounds-message-1 c = search rules
 
-returns : tie.Need-returns
-returns c = no_house c.before.before.args.message.now c.if1.true
+returns-then-message-gt15 : tie.Need-returns-then-message-gt15
+returns-then-message-gt15 c = no_house c.before.before.args.message.now c.if-message-gt15.true
 
-shared-slice-read-unit : tie.Need-shared-slice-read-unit
-shared-slice-read-unit c = search rules
+bounds-message-2 : tie.Need-bounds-message-2
+bounds-message-2 c = search rules
 
-shared-slice-read-match : tie.Need-shared-slice-read-match
-shared-slice-read-match c = search rules
+bounds-message-3 : tie.Need-bounds-message-3
+bounds-message-3 c = search rules
 
-returns-2 : tie.Need-returns-2
-returns-2 c =
+returns-in-8 : tie.Need-returns-in-8
+returns-in-8 c =
     let past = c.before.before.before in
-    any_unit past.before.before.args.message.now past.if1.false c.match.keys1
+    any_unit past.before.before.args.message.now past.if-message-gt15.false c.in-8.is
 
-returns-3 : tie.Need-returns-3
-returns-3 c =
+returns-in-40 : tie.Need-returns-in-40
+returns-in-40 c =
     let past = c.before.before.before in
-    one_unit past.before.before.args.message.now past.if1.false c.match.keys2
+    one_unit past.before.before.args.message.now past.if-message-gt15.false c.in-40.is
 
-returns-4 : tie.Need-returns-4
-returns-4 c =
+returns-in_default : tie.Need-returns-in_default
+returns-in_default c =
     let past = c.before.before.before in
-    reserved past.before.before.args.message.now past.if1.false c.match.rest.0.1 c.match.rest.1
+    reserved past.before.before.args.message.now past.if-message-gt15.false c.in_default.in_default-own.rest.0.1 c.in_default.in_default-own.rest.1
 
 pub x10_ok_spec : {M : Type 1} → statement M
 x10_ok_spec =
     tie.close
     (tie.spec
-    shared-slice-read-if1
-    returns
-    shared-slice-read-unit
-    shared-slice-read-match
-    returns-2
-    returns-3
-    returns-4)
+    bounds-message-1
+    returns-then-message-gt15
+    bounds-message-2
+    bounds-message-3
+    returns-in-8
+    returns-in-40
+    returns-in_default)

@@ -16,29 +16,29 @@ kept : (s b n : ℕ) → s + b ≤ 255 → n ≡ (s + b) % 256 → n % 255 ≡ (
 kept s b n h e = ap (λ k. k % 255) (e ∙ mod-eq_of_lt (omega arith))
 
 -- what the eight bits hold before the last test
-remainder : (c : tie.After-wrapping-add-u82)
-    → c.wrapping-add-u82.result % 255 ≡ (c.before.before.args.sum + c.before.before.args.b) % 255
+remainder : (c : tie.After-wrapping_add_u8-sum-2)
+    → c.wrapping_add_u8-sum-2.result % 255 ≡ (c.before.before.args.sum + c.before.before.args.b) % 255
 remainder c =
     let a = c.before.before.args in
-    let n = c.wrapping-add-u82.result in
+    let n = c.wrapping_add_u8-sum-2.result in
     ⊎_elim (λ w. carried a.sum a.b n (omega arith) (omega arith) (omega arith) (omega arith))
     (λ w. kept a.sum a.b n (omega arith) (omega arith))
-    c.before.if1.branch
+    c.before.if-sum-b.branch-raw
 
-sub-if1 : tie.Need-overflow-sub-if1
-sub-if1 c = search rules
+overflow_sub-sum : tie.Need-overflow_sub-sum
+overflow_sub-sum c = search rules
 
-wrapping-add-u8-requires : tie.Need-wrapping-add-u8-requires
-wrapping-add-u8-requires c κs = search rules
+wrapping_add_u8-sum-requires : tie.Need-wrapping_add_u8-sum-requires
+wrapping_add_u8-sum-requires c κs = search rules
 
-wrapping-add-u8-requires-2 : tie.Need-wrapping-add-u8-requires-2
-wrapping-add-u8-requires-2 c κs = search rules
+wrapping_add_u8-sum-requires-2 : tie.Need-wrapping_add_u8-sum-requires-2
+wrapping_add_u8-sum-requires-2 c κs = search rules
 
-returns : tie.Need-returns
-returns c = ap (λ k. k % 255) (sym c.if2.true) ∙ remainder c.before
+returns-then-sum-eq255 : tie.Need-returns-then-sum-eq255
+returns-then-sum-eq255 c = ap (λ k. k % 255) (sym c.if-sum-eq255.true) ∙ remainder c.before
 
-returns-2 : tie.Need-returns-2
-returns-2 c = sym (mod-eq_of_lt (omega arith)) ∙ remainder c.before
+returns-else-sum-eq255 : tie.Need-returns-else-sum-eq255
+returns-else-sum-eq255 c = sym (mod-eq_of_lt (omega arith)) ∙ remainder c.before
 
 pub add_spec : {M : Type 1} → statement M
-add_spec = tie.close (tie.spec sub-if1 wrapping-add-u8-requires wrapping-add-u8-requires-2 returns returns-2)
+add_spec = tie.close (tie.spec overflow_sub-sum wrapping_add_u8-sum-requires wrapping_add_u8-sum-requires-2 returns-then-sum-eq255 returns-else-sum-eq255)
