@@ -14,7 +14,7 @@ pub const LONGEST_COMMAND: usize = 13;
 
 // A slot is used when its length is not 0.
 #[repr(C)]
-#[derive(Drop)]
+#[derive(Clone, Copy)]
 pub struct Slot {
     pub length: u8,
     pub sent: u8,
@@ -23,7 +23,7 @@ pub struct Slot {
 }
 
 // The eight slots, oldest command first.
-#[derive(Drop)]
+#[derive(Clone, Copy)]
 pub struct Eight {
     pub s0: Slot,
     pub s1: Slot,
@@ -36,7 +36,7 @@ pub struct Eight {
 }
 
 // How the front ended in a call: not at all, given up, or by a good 1Dh, 1Ch, 1Fh or 12h.
-#[derive(Drop)]
+#[derive(Clone, Copy)]
 pub enum Ended {
     Not,
     GivenUp,
@@ -48,7 +48,7 @@ pub enum Ended {
 
 // A call's answer: 0 or the refusal's number, how the front ended, and the message that goes out, of
 // length 0 where none does.
-#[derive(Drop)]
+#[derive(Clone, Copy)]
 pub struct Sending {
     pub number: u8,
     pub ended: Ended,
@@ -57,7 +57,7 @@ pub struct Sending {
 }
 
 // A call's answer, and the eight slots after it.
-#[derive(Drop)]
+#[derive(Clone, Copy)]
 pub struct Called {
     pub answer: Sending,
     pub line: Eight,
@@ -162,7 +162,7 @@ fn with_flag(message: &[u8]) -> [u8; LONGEST_COMMAND]
     ensures { result ≡ padded (flagged message.now) }
 {
     let mut array = [0; LONGEST_COMMAND];
-    bytes::copy(message, &mut array);
+    array[..message.len()].copy_from_slice(message);
     array[0] = 128 + array[0] % 128;
     array
 }

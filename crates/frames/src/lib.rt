@@ -280,7 +280,7 @@ fn grow(framing: Framing, held: usize, frame: &mut [u8], bytes: &[u8]) -> usize
 }
 
 // How many plain bytes were taken, and how many bytes of the line these are.
-#[derive(Drop)]
+#[derive(Clone, Copy)]
 pub struct Taken {
     pub count: usize,
     pub used: usize,

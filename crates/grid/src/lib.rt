@@ -16,7 +16,7 @@ ghost use Rattle.grid.specs.Cells.{is_number, row_at, cells_at};
 use standard::Counts;
 
 // "Each coarser level, 8, 4, 2 and 1 cells wide", and the zones themselves.
-#[derive(Drop)]
+#[derive(Clone, Copy)]
 pub enum Level {
     Sixteen,
     Eight,
@@ -26,14 +26,14 @@ pub enum Level {
 }
 
 // "A block or zone with nothing heard is its own case in the pyramid."
-#[derive(Drop)]
+#[derive(Clone, Copy)]
 pub enum Cell {
     Share(f32),
     NotHeard,
 }
 
 // 0 and how many bytes of each buffer are the grid's, or the refusal's number and 0.
-#[derive(Drop)]
+#[derive(Clone, Copy)]
 pub struct Gridded {
     pub number: u8,
     pub header: usize,

@@ -11,7 +11,7 @@ use reader::{Mode, Reader};
 use standard::{Escapes, Reply, Said, Verdict};
 
 // What one call gives.
-#[derive(Drop)]
+#[derive(Clone, Copy)]
 pub struct Hearing {
     pub reader: Reader,
     pub used: usize,
@@ -20,7 +20,7 @@ pub struct Hearing {
 }
 
 // What one call gives whose frame's bytes stand in lent memory.
-#[derive(Drop)]
+#[derive(Clone, Copy)]
 pub struct Listened {
     pub mode: Mode,
     pub held: usize,

@@ -41,7 +41,7 @@ const LENIENT: u8 = 1;
 // A reader: framing 0 is binary, any other ASCII; mode 0 skipping, 1 in a frame, 2 after a 7Dh,
 // 3 a digit pending; escapes 0 is strict, any other the old rule.
 #[repr(C)]
-#[derive(Drop)]
+#[derive(Clone, Copy)]
 pub struct CReader {
     pub framing: u8,
     pub mode: u8,
@@ -53,7 +53,7 @@ pub struct CReader {
 
 // A read: the verdict or 255, the type byte or 0, the message and zeros.
 #[repr(C)]
-#[derive(Drop)]
+#[derive(Clone, Copy)]
 pub struct CReading {
     pub reader: CReader,
     pub used: usize,
@@ -64,7 +64,7 @@ pub struct CReading {
 }
 
 // What a read answers but for the frame's bytes: the next reader's numbers, and the verdict's.
-#[derive(Drop)]
+#[derive(Clone, Copy)]
 struct CScanned {
     framing: u8,
     mode: u8,
@@ -79,7 +79,7 @@ struct CScanned {
 
 // The writer's answer.
 #[repr(C)]
-#[derive(Drop)]
+#[derive(Clone, Copy)]
 pub struct CWritten {
     pub number: u8,
     pub length: usize,
@@ -87,7 +87,7 @@ pub struct CWritten {
 
 // Where a record stands in a log, and its length; both 0 where there is none.
 #[repr(C)]
-#[derive(Drop)]
+#[derive(Clone, Copy)]
 pub struct CFound {
     pub number: u8,
     pub at: usize,
@@ -96,7 +96,7 @@ pub struct CFound {
 
 // How many bytes of the header's buffer and of the cells' are a grid's; both 0 where it was refused.
 #[repr(C)]
-#[derive(Drop)]
+#[derive(Clone, Copy)]
 pub struct CGridded {
     pub number: u8,
     pub header: usize,
@@ -104,7 +104,7 @@ pub struct CGridded {
 }
 
 // What a width names.
-#[derive(Drop)]
+#[derive(Clone, Copy)]
 enum Width {
     Names(Level),
     Nothing,
@@ -112,7 +112,7 @@ enum Width {
 
 // The counts of a group or of the site; where known is 0 the share is a NaN.
 #[repr(C)]
-#[derive(Drop)]
+#[derive(Clone, Copy)]
 pub struct CGroup {
     pub heard: u16,
     pub faulted: u16,
@@ -122,7 +122,7 @@ pub struct CGroup {
 
 // The overview.
 #[repr(C)]
-#[derive(Drop)]
+#[derive(Clone, Copy)]
 pub struct COverview {
     pub number: u8,
     pub groups: [CGroup; 16],
@@ -131,7 +131,7 @@ pub struct COverview {
 
 // A read, the reply to its verdict, and the message put into the table.
 #[repr(C)]
-#[derive(Drop)]
+#[derive(Clone, Copy)]
 pub struct CHearing {
     pub reader: CReader,
     pub used: usize,
@@ -144,7 +144,7 @@ pub struct CHearing {
 
 // A zone's record: number 0 or 11, mark, short flags, and the bytes from mask to condition flags 2.
 #[repr(C)]
-#[derive(Drop)]
+#[derive(Clone, Copy)]
 pub struct CZone {
     pub number: u8,
     pub mark: u8,
@@ -154,7 +154,7 @@ pub struct CZone {
 
 // A partition's record: number 0, 11 or 8, mark, short byte, and the seven bytes of 06h.
 #[repr(C)]
-#[derive(Drop)]
+#[derive(Clone, Copy)]
 pub struct CPartition {
     pub number: u8,
     pub mark: u8,
@@ -164,7 +164,7 @@ pub struct CPartition {
 
 // The system record: number 0 or 11, mark, and the eleven bytes of 08h.
 #[repr(C)]
-#[derive(Drop)]
+#[derive(Clone, Copy)]
 pub struct CSystem {
     pub number: u8,
     pub mark: u8,
@@ -174,7 +174,7 @@ pub struct CSystem {
 // What a call on the line of commands answers: 0 or the refusal's number, how the front ended, and
 // the message that goes out, zero beyond its length.
 #[repr(C)]
-#[derive(Drop)]
+#[derive(Clone, Copy)]
 pub struct CSending {
     pub number: u8,
     pub ended: u8,

@@ -16,7 +16,7 @@ pub fn part(out: &mut [u8], place: usize, bytes: &[u8]) -> usize
     if out.len() - place < bytes.len() {
         return place;
     }
-    bytes::copy(bytes, &mut out[place..]);
+    out[place..place + bytes.len()].copy_from_slice(bytes);
     place + bytes.len()
 }
 

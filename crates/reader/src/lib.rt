@@ -20,7 +20,7 @@ use standard::{Escapes, Framing, Said};
 const MOST: usize = standard::LONGEST + 3;
 
 // Between frames, in a frame, after a 7Dh (binary), or with a high digit pending (ASCII).
-#[derive(Drop)]
+#[derive(Clone, Copy)]
 pub enum Mode {
     Skipping(Framing),
     Open(Framing),
@@ -30,7 +30,7 @@ pub enum Mode {
 
 // How many recovered bytes are held, and where: the first `held` of `bytes`. After a verdict 0 the
 // message stands in `bytes` after the length byte. The rule of escapes stays as it was made.
-#[derive(Drop)]
+#[derive(Clone, Copy)]
 pub struct Reader {
     pub mode: Mode,
     pub held: usize,
@@ -39,14 +39,14 @@ pub struct Reader {
 }
 
 // What one byte gives.
-#[derive(Drop)]
+#[derive(Clone, Copy)]
 pub struct Stepped {
     pub reader: Reader,
     pub said: Said,
 }
 
 // What a read gives.
-#[derive(Drop)]
+#[derive(Clone, Copy)]
 pub struct Reading {
     pub reader: Reader,
     pub used: usize,
@@ -54,7 +54,7 @@ pub struct Reading {
 }
 
 // What a scan gives: a read whose frame's bytes stand in lent memory.
-#[derive(Drop)]
+#[derive(Clone, Copy)]
 pub struct Scanned {
     pub mode: Mode,
     pub held: usize,
@@ -63,7 +63,7 @@ pub struct Scanned {
 }
 
 // No verdict, one that needs no look at the frame's bytes, or the judgement of the whole frame.
-#[derive(Drop)]
+#[derive(Clone, Copy)]
 enum Outcome {
     Nothing,
     Number,
@@ -75,7 +75,7 @@ enum Outcome {
 // verdict's number. What is not used is 0. The array stays with the loop, which would be many times
 // slower if every decision handed it on; for the same reason no case of an enum holds the numbers,
 // and the fields stand in this order.
-#[derive(Drop)]
+#[derive(Clone, Copy)]
 struct Decision {
     keep: bool,
     mode: Mode,

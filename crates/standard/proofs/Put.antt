@@ -107,27 +107,18 @@ mid_laid place part out h =
     ∙ ap (λ (l : List ℕ). take place out ++ l) (append-nil (sets rest 0 part))
     ∙ over place part out h
 
--- the kit's `bytes::copy` into a buffer leaves the stores of what was copied: by its promise, `after` is that
-pub copied : (part buffer : List ℕ) {after : List ℕ} → length part ≤ length buffer
-    → after ≡ take (length part) part ++ drop (length part) buffer → after ≡ sets buffer 0 part
-copied part buffer {after} h e =
-    let n = length part in
-    let fit : 0 + n ≤ length buffer = omega arith in
-    e
-    ∙ ap (λ (l : List ℕ). l ++ drop n buffer) (take-length part)
-    ∙ ap (λ (k : ℕ). part ++ drop k buffer) (sym (zero-add n))
-    ∙ sym (sets-eq part buffer 0 fit)
-
--- and into `&mut buffer[place..]`, said of the whole buffer as it comes back
-pub copied_from : (place : ℕ) (part buffer : List ℕ) {after : List ℕ} → place + length part ≤ length buffer
-    → after ≡ take (length part) part ++ drop (length part) (take (length buffer - place) (drop place buffer))
-    → Put buffer place part (put_mid place (length buffer - place) buffer after) (place + length part)
-copied_from place part buffer {after} h e =
-    let n = length buffer - place in
-    let lent = take n (drop place buffer) in
-    let short : length part ≤ length lent = simp (length-take, length-drop) (omega arith) in
-    let stored = ap (put_mid place n buffer) (copied part lent short e) in
-    record { bytes = stored ∙ mid_laid place part buffer h ∙ sym (sets-eq part buffer place h); end = refl }
+-- a part copied into `&mut buffer[place..place + n]`, said of the whole buffer as it comes back
+pub copied_to : (place n : ℕ) (part buffer : List ℕ) {after : List ℕ} → place + length part ≤ length buffer
+    → n ≡ length part
+    → after ≡ part
+    → Put buffer place part (put_mid place n buffer after) (place + length part)
+copied_to place n part buffer {after} h e f =
+    let whole : put_mid place n buffer after ≡ laid buffer place part =
+    ap (λ (l : List ℕ). take place buffer ++ (l ++ drop n (drop place buffer))) f
+    ∙ ap (λ (k : ℕ). take place buffer ++ (part ++ drop k (drop place buffer))) e
+    ∙ ap (λ (l : List ℕ). take place buffer ++ (part ++ l)) (drop-drop (length part) place buffer)
+    ∙ sym (append_assoc (take place buffer) part (drop (place + length part) buffer)) in
+    record { bytes = whole ∙ sym (sets-eq part buffer place h); end = refl }
 
 -- the bytes of a part one by one
 abbrev pub listed : ℕ → ℕ → List ℕ → List ℕ

@@ -13,7 +13,7 @@ pub const LONGEST: usize = 255;
 pub const LONGEST_KNOWN: usize = 18;
 
 // The line's two framings.
-#[derive(Drop)]
+#[derive(Clone, Copy)]
 pub enum Framing {
     Binary,
     Ascii,
@@ -21,14 +21,14 @@ pub enum Framing {
 
 // The rule of escapes of a binary line: which byte may follow a 7Dh. Strict: one that needs an
 // escape. Lenient, the old rule: any.
-#[derive(Drop)]
+#[derive(Clone, Copy)]
 pub enum Escapes {
     Strict,
     Lenient,
 }
 
 // Sum 1 and sum 2 of some bytes.
-#[derive(Drop)]
+#[derive(Clone, Copy)]
 pub struct Sums {
     pub one: u8,
     pub two: u8,
@@ -36,7 +36,7 @@ pub struct Sums {
 
 // A verdict and what goes with it: its number on the sheet, the type byte (0 unless the number is
 // 0, 6, 7 or 8), and the length of the message handed out (0 unless the number is 0).
-#[derive(Drop)]
+#[derive(Clone, Copy)]
 pub struct Verdict {
     pub number: u8,
     pub type_byte: u8,
@@ -44,21 +44,21 @@ pub struct Verdict {
 }
 
 // At most one verdict.
-#[derive(Drop)]
+#[derive(Clone, Copy)]
 pub enum Said {
     Silent,
     Gave(Verdict),
 }
 
 // The writer's answer: 0 and the frame's length, or the refusal's number and length 0.
-#[derive(Drop)]
+#[derive(Clone, Copy)]
 pub struct Written {
     pub number: u8,
     pub length: usize,
 }
 
 // What the host replies.
-#[derive(Drop)]
+#[derive(Clone, Copy)]
 pub enum Reply {
     Nothing,
     Acknowledge,
@@ -67,21 +67,21 @@ pub enum Reply {
 }
 
 // A share, or "not heard", which holds no number.
-#[derive(Drop)]
+#[derive(Clone, Copy)]
 pub enum Share {
     Share(f64),
     NotHeard,
 }
 
 // How many of some zones are heard, and how many of those are faulted.
-#[derive(Drop)]
+#[derive(Clone, Copy)]
 pub struct Counts {
     pub heard: u16,
     pub faulted: u16,
 }
 
 // The counts of a group or of the site, and their share.
-#[derive(Drop)]
+#[derive(Clone, Copy)]
 pub struct Group {
     pub heard: u16,
     pub faulted: u16,
@@ -89,7 +89,7 @@ pub struct Group {
 }
 
 // The overview: 0 and the counts, or the refusal's number and nothing heard.
-#[derive(Drop)]
+#[derive(Clone, Copy)]
 pub struct Overview {
     pub number: u8,
     pub groups: [Group; 16],

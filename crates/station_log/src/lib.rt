@@ -19,7 +19,7 @@ pub const LOG_MOST: usize = 65536;
 
 // The answer to a question about a zone: 0 and where the newest record about it stands, of length 0
 // where there is none; or the refusal's number.
-#[derive(Drop)]
+#[derive(Clone, Copy)]
 pub struct Found {
     pub number: u8,
     pub at: usize,
@@ -170,7 +170,7 @@ fn put(log: &mut [u8], place: usize, message: &[u8])
 {
     let n = message.len();
     let last = place + n;
-    bytes::copy(message, &mut log[place..]);
+    log[place..place + message.len()].copy_from_slice(message);
     log[last] = n as u8;
 }
 
@@ -198,7 +198,7 @@ const CELLS: usize = 522;
 
 // What a walk back through a log has decided: 0 and where the places of the records that stay begin,
 // or 17.
-#[derive(Drop)]
+#[derive(Clone, Copy)]
 struct Walked {
     number: u8,
     first: usize,

@@ -11,7 +11,7 @@ ghost use Rattle.standard.specs.Table.{table_bytes, is_table, zone_place, partit
 ghost use Rattle.standard.specs.Questions.{table_refusal, partition_refusal, zone_part, partition_part, system_part, Answered};
 
 // The answer to a question: 0 and the value, or the refusal's number and 0.
-#[derive(Drop)]
+#[derive(Clone, Copy)]
 pub struct Answer {
     pub number: u8,
     pub value: u8,
@@ -103,7 +103,7 @@ fn put_zone(table: &mut [u8], message: &[u8])
         message[7],
         short,
     ];
-    bytes::copy(&fields, &mut table[place..]);
+    table[place..place + 8].copy_from_slice(&fields);
 }
 
 // 05h "sets short flags .. and mark bit 0 of its 16 zones, nothing else of them": two zones a byte,
@@ -145,7 +145,7 @@ fn put_partition(table: &mut [u8], message: &[u8])
         message[7],
         message[8],
     ];
-    bytes::copy(&fields, &mut table[place..]);
+    table[place..place + 9].copy_from_slice(&fields);
 }
 
 // 07h "sets all eight short bytes and mark bit 0 of each".
@@ -183,7 +183,7 @@ fn put_system(table: &mut [u8], message: &[u8])
         message[10],
         message[11],
     ];
-    bytes::copy(&fields, &mut table[SYSTEM_PLACE..]);
+    table[SYSTEM_PLACE..SYSTEM_PLACE + 12].copy_from_slice(&fields);
 }
 
 // The writes of one of the five.

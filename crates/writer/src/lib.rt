@@ -125,7 +125,7 @@ fn put_coded(frame: &mut [u8], place: usize, b: u8, framing: Framing) -> usize
 }
 
 // Where the coded bytes of a message end, and its sums.
-#[derive(Drop)]
+#[derive(Clone, Copy)]
 struct Coded {
     next: usize,
     sums: Sums,

@@ -7,21 +7,21 @@ use Rattle.commands.proofs.behind_ok.Tie as tie
 idle-requires : tie.Need-idle-requires
 idle-requires c κs = search rules
 
-idle-requires-2 : tie.Need-idle-requires-2
-idle-requires-2 c κs = search rules
+idle-requires-else-s-eq0 : tie.Need-idle-requires-else-s-eq0
+idle-requires-else-s-eq0 c κs = search rules
 
-holds-one-requires : tie.Need-holds-one-requires
-holds-one-requires c κs = search rules
+holds_one-requires : tie.Need-holds_one-requires
+holds_one-requires c κs = search rules
 
-returns : tie.Need-returns
+returns-then-s-eq0 : tie.Need-returns-then-s-eq0
 unfolding behind_ok
-returns c = simp (eq-eqb _ _ c.before.if1.true) c.idle.ensures
+returns-then-s-eq0 c = simp (eq-eqb _ _ c.before.if-s-eq0.true) c.idle.ensures
 
-returns-2 : tie.Need-returns-2
+returns-else-s-eq0 : tie.Need-returns-else-s-eq0
 unfolding behind_ok
-returns-2 c =
+returns-else-s-eq0 c =
     let first = c.before.before in
-    simp (ne_eqb _ _ first.before.if1.false, first.idle2.ensures, c.holds-one.ensures)
+    simp (ne_eqb _ _ first.before.if-s-eq0.false, first.idle-else-s-eq0.ensures, c.holds_one.ensures)
 
 pub behind_ok_spec : {M : Type 1} → statement M
-behind_ok_spec = tie.close (tie.spec idle-requires idle-requires-2 holds-one-requires returns returns-2)
+behind_ok_spec = tie.close (tie.spec idle-requires idle-requires-else-s-eq0 holds_one-requires returns-then-s-eq0 returns-else-s-eq0)

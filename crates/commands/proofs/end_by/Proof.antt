@@ -20,20 +20,20 @@ left n false e h a b c =
     let z : ◌≡◌ {A = ℕ} 0 1 = let no = sym none ∙ h in cc in
     absurd (omega arith)
 
-returns : tie.Need-returns
-returns c = search rules
+returns-in-29 : tie.Need-returns-in-29
+returns-in-29 c = search rules
 
-returns-2 : tie.Need-returns-2
-returns-2 c = search rules
+returns-in-28 : tie.Need-returns-in-28
+returns-in-28 c = search rules
 
-returns-3 : tie.Need-returns-3
-returns-3 c = search rules
+returns-in-31 : tie.Need-returns-in-31
+returns-in-31 c = search rules
 
-returns-4 : tie.Need-returns-4
-returns-4 c =
+returns-in_default : tie.Need-returns-in_default
+returns-in_default c =
     let s = c.before in
-    let others = c.match.rest in
+    let others = c.in_default.in_default-own.rest in
     left s.args.number (eqb s.args.number 0x12) refl s.requires others.0.0.1 others.0.1 others.1
 
 pub end_by_spec : {M : Type 1} → statement M
-end_by_spec = tie.close (tie.spec returns returns-2 returns-3 returns-4)
+end_by_spec = tie.close (tie.spec returns-in-29 returns-in-28 returns-in-31 returns-in_default)

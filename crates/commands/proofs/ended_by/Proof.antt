@@ -13,35 +13,35 @@ use Rattle.commands.proofs.Slotwise.{moved_row, moves}
 use Rattle.commands.proofs.ended_by.Statement.{statement}
 use Rattle.commands.proofs.ended_by.Tie as tie
 
-moved-to-requires : tie.Need-moved-to-requires
-moved-to-requires c κs = search rules
+moved_to-requires : tie.Need-moved_to-requires
+moved_to-requires c κs = search rules
 
-moved-to-requires-2 : tie.Need-moved-to-requires-2
-moved-to-requires-2 c κs = search rules
+moved_to-requires-2 : tie.Need-moved_to-requires-2
+moved_to-requires-2 c κs = search rules
 
-moved-to-requires-3 : tie.Need-moved-to-requires-3
-moved-to-requires-3 c κs = search rules
+moved_to-requires-3 : tie.Need-moved_to-requires-3
+moved_to-requires-3 c κs = search rules
 
-moved-to-requires-4 : tie.Need-moved-to-requires-4
-moved-to-requires-4 c κs = search rules
+moved_to-requires-4 : tie.Need-moved_to-requires-4
+moved_to-requires-4 c κs = search rules
 
-moved-to-requires-5 : tie.Need-moved-to-requires-5
-moved-to-requires-5 c κs = search rules
+moved_to-requires-5 : tie.Need-moved_to-requires-5
+moved_to-requires-5 c κs = search rules
 
-moved-to-requires-6 : tie.Need-moved-to-requires-6
-moved-to-requires-6 c κs = search rules
+moved_to-requires-6 : tie.Need-moved_to-requires-6
+moved_to-requires-6 c κs = search rules
 
-moved-to-requires-7 : tie.Need-moved-to-requires-7
-moved-to-requires-7 c κs = search rules
+moved_to-requires-7 : tie.Need-moved_to-requires-7
+moved_to-requires-7 c κs = search rules
 
-moved-to-requires-8 : tie.Need-moved-to-requires-8
-moved-to-requires-8 c κs = search rules
+moved_to-requires-8 : tie.Need-moved_to-requires-8
+moved_to-requires-8 c κs = search rules
 
 blank-requires : tie.Need-blank-requires
 blank-requires c κs = search rules
 
-goes-out-requires : tie.Need-goes-out-requires
-goes-out-requires c κs =
+goes_out-requires : tie.Need-goes_out-requires
+goes_out-requires c κs =
     let c₅ = c.before.before.before.before in
     let c₁ = c₅.before.before.before.before in
     let s = c₁.before in
@@ -66,26 +66,26 @@ returns c =
     let c₁ = c₂.before in
     let s = c₁.before in
     let q = s.args.q in
-    let last = c₈.moved-to8.ensures ∙ ap (moved_to q.s7) c₉.blank.ensures in
+    let last = c₈.moved_to-8.ensures ∙ ap (moved_to q.s7) c₉.blank.ensures in
     let behind : List Slot = q.s1 ∷ q.s2 ∷ q.s3 ∷ q.s4 ∷ q.s5 ∷ q.s6 ∷ q.s7 ∷ [] in
-    c.goes-out.ensures
+    c.goes_out.ensures
     ∙ ap (goes_out (ended_number s.args.ended))
-    ((λ j. c₁.moved_to.ensures j ∷ c₂.moved-to2.ensures j ∷ c₃.moved-to3.ensures j ∷ c₄.moved-to4.ensures j
-    ∷ c₅.moved-to5.ensures j ∷ c₆.moved-to6.ensures j ∷ c₇.moved-to7.ensures j ∷ last j ∷ [])
+    ((λ j. c₁.moved_to.ensures j ∷ c₂.moved_to-2.ensures j ∷ c₃.moved_to-3.ensures j ∷ c₄.moved_to-4.ensures j
+    ∷ c₅.moved_to-5.ensures j ∷ c₆.moved_to-6.ensures j ∷ c₇.moved_to-7.ensures j ∷ last j ∷ [])
     ∙ sym (moves q.s0 behind s.requires.1 (sound_tests_lem (row q) s.requires.0).first))
 
 pub ended_by_spec : {M : Type 1} → statement M
 ended_by_spec =
     tie.close
     (tie.spec
-    moved-to-requires
-    moved-to-requires-2
-    moved-to-requires-3
-    moved-to-requires-4
-    moved-to-requires-5
-    moved-to-requires-6
-    moved-to-requires-7
+    moved_to-requires
+    moved_to-requires-2
+    moved_to-requires-3
+    moved_to-requires-4
+    moved_to-requires-5
+    moved_to-requires-6
+    moved_to-requires-7
     blank-requires
-    moved-to-requires-8
-    goes-out-requires
+    moved_to-requires-8
+    goes_out-requires
     returns)

@@ -7,16 +7,16 @@ use Rattle.commands.proofs.front_ok.Tie as tie
 idle-requires : tie.Need-idle-requires
 idle-requires c κs = search rules
 
-holds-one-requires : tie.Need-holds-one-requires
-holds-one-requires c κs = search rules
+holds_one-requires : tie.Need-holds_one-requires
+holds_one-requires c κs = search rules
 
-returns : tie.Need-returns
+returns-then-s-eq0 : tie.Need-returns-then-s-eq0
 unfolding front_ok
-returns c = simp (eq-eqb _ _ c.before.if1.true) c.idle.ensures
+returns-then-s-eq0 c = simp (eq-eqb _ _ c.before.if-s-eq0.true) c.idle.ensures
 
-returns-2 : tie.Need-returns-2
+returns-else-s-eq0 : tie.Need-returns-else-s-eq0
 unfolding front_ok
-returns-2 c = simp (ne_eqb _ _ c.before.before.before.before.if1.false, c.holds-one.ensures)
+returns-else-s-eq0 c = simp (ne_eqb _ _ c.before.before.before.before.if-s-eq0.false, c.holds_one.ensures)
 
 pub front_ok_spec : {M : Type 1} → statement M
-front_ok_spec = tie.close (tie.spec idle-requires holds-one-requires returns returns-2)
+front_ok_spec = tie.close (tie.spec idle-requires holds_one-requires returns-then-s-eq0 returns-else-s-eq0)

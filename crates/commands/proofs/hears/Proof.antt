@@ -13,7 +13,7 @@ use Rattle.commands.proofs.Held.{first_byte, good_some, sound_front}
 use Rattle.commands.proofs.hears.Statement.{statement}
 use Rattle.commands.proofs.hears.Tie as tie
 
-size : (s : tie.Start) → length s.args.q.s0.message ≡ longest_command
+size : (s : tie.Start) → length s.args.q.s0.message-1 ≡ longest_command
 size s = search rules
 
 -- whether the front ends, as the code has found
@@ -23,62 +23,62 @@ found c =
     let s = c.before.before.before in
     let q = s.args.q in
     let front = holds q.s0 (sound_front q.s0 (drop 1 (row q)) s.requires.1 s.requires.0).holds in
-    let whole : q.s0.length ≤ length q.s0.message = omega (arith, front.few, size s) in
-    let some = good_some q.s0.length q.s0.message whole front.good in
-    rw (first_byte q.s0.length q.s0.message some) (sym c.ends.ensures)
+    let whole : q.s0.length ≤ length q.s0.message-1 = omega (arith, front.few, size s) in
+    let some = good_some q.s0.length q.s0.message-1 whole front.good in
+    rw (first_byte q.s0.length q.s0.message-1 some) (sym c.ends.ensures)
 
-array-read-ends : tie.Need-array-read-ends
-array-read-ends c = search rules
+bounds-message-0 : tie.Need-bounds-message-0
+bounds-message-0 c = search rules
 
 ends-requires : tie.Need-ends-requires
 ends-requires c κs = search rules
 
-end-by-requires : tie.Need-end-by-requires
-end-by-requires c κs = one_of_four _ _ (sym c.before.ends.ensures ∙ c.if1.true)
+end_by-requires : tie.Need-end_by-requires
+end_by-requires c κs = one_of_four _ _ (sym c.before.ends.ensures ∙ c.if-ends.true)
 
-ended-by-requires : tie.Need-ended-by-requires
-ended-by-requires c κs = search rules
+ended_by-requires : tie.Need-ended_by-requires
+ended_by-requires c κs = search rules
 
-returns : tie.Need-returns
-returns c =
+returns-then-ends : tie.Need-returns-then-ends
+returns-then-ends c =
     let by = c.before in
     let call = by.before.before in
     let s = call.before.before.before in
-    rw (s.requires.1, found call ∙ by.before.if1.true)
+    rw (s.requires.1, found call ∙ by.before.if-ends.true)
     (c.Ended-by.ensures ∙ ap (λ (n : ℕ). ended_by n (row s.args.q)) by.end_by.ensures)
 
-sends-again-requires : tie.Need-sends-again-requires
-sends-again-requires c κs = search rules
+sends_again-requires : tie.Need-sends_again-requires
+sends_again-requires c κs = search rules
 
-returns-2 : tie.Need-returns-2
-returns-2 c =
+returns-then-number-eq30 : tie.Need-returns-then-number-eq30
+returns-then-number-eq30 c =
     let test = c.before in
     let call = test.before.before in
     let s = call.before.before.before in
-    let negative : s.args.number ≡ 0x1E = omega (arith, test.if2.true) in
-    rw (s.requires.1, found call ∙ test.before.if1.false, eq-eqb _ _ negative) c.sends-again.ensures
+    let negative : s.args.number ≡ 0x1E = omega (arith, test.if-number-eq30.true) in
+    rw (s.requires.1, found call ∙ test.before.if-ends.false, eq-eqb _ _ negative) c.sends_again.ensures
 
 silent-requires : tie.Need-silent-requires
 silent-requires c κs = search rules
 
-returns-3 : tie.Need-returns-3
-returns-3 c =
+returns : tie.Need-returns
+returns c =
     let test = c.before in
     let call = test.before.before in
     let s = call.before.before.before in
-    rw (s.requires.1, found call ∙ test.before.if1.false, ne_eqb _ _ test.if2.false)
+    rw (s.requires.1, found call ∙ test.before.if-ends.false, ne_eqb _ _ test.if-number-eq30.false)
     (ap (λ (a : Answer). after a (row s.args.q)) c.silent.ensures)
 
 pub hears_spec : {M : Type 1} → statement M
 hears_spec =
     tie.close
     (tie.spec
-    array-read-ends
+    bounds-message-0
     ends-requires
-    end-by-requires
-    ended-by-requires
-    returns
-    sends-again-requires
-    returns-2
+    end_by-requires
+    ended_by-requires
+    returns-then-ends
+    sends_again-requires
+    returns-then-number-eq30
     silent-requires
-    returns-3)
+    returns)

@@ -11,63 +11,63 @@ use Rattle.commands.proofs.Held.{first_byte, good_some}
 use Rattle.commands.proofs.holds_one.Statement.{statement}
 use Rattle.commands.proofs.holds_one.Tie as tie
 
-cast-n : tie.Need-overflow-cast-n
-cast-n c = search rules
+overflow_cast-n : tie.Need-overflow_cast-n
+overflow_cast-n c = search rules
 
-returns : tie.Need-returns
+returns-then-n-gt-LONGEST_COMMAND : tie.Need-returns-then-n-gt-LONGEST_COMMAND
 unfolding holds_one
-returns c = simp (lt-leb _ _ c.if1.true)
+returns-then-n-gt-LONGEST_COMMAND c = simp (lt-leb _ _ c.if-n-gt-LONGEST_COMMAND.true)
 
-array-share-prefix-message : tie.Need-array-share-prefix-message
-array-share-prefix-message c =
-    let size : length c.before.before.before.args.s.message ≡ longest_command = search rules in
+slice_bounds-message-end : tie.Need-slice_bounds-message-end
+slice_bounds-message-end c =
+    let size : length c.before.before.before.args.s.message-1 ≡ longest_command = search rules in
     omega arith
 
-slice-aggregate-check : tie.Need-slice-aggregate-check
-slice-aggregate-check c =
-    let size : length c.before.before.before.before.args.s.message ≡ longest_command = search rules in
+slice_bounds-check-end : tie.Need-slice_bounds-check-end
+slice_bounds-check-end c =
+    let size : length c.before.before.before.before.args.s.message-1 ≡ longest_command = search rules in
     sym (length-take-le _ _ (omega arith))
 
 check-requires : tie.Need-check-requires
 check-requires c κs = search rules
 
-returns-2 : tie.Need-returns-2
+returns-then-check-ne0 : tie.Need-returns-then-check-ne0
 unfolding holds_one
-returns-2 c =
+returns-then-check-ne0 c =
     let call = c.before in
     let s = call.before.before.before.before.before.args.s in
     simp (
-      le-leb _ _ call.before.before.if1.false,
-      ne_eqb (check_of (message_in s)) 0 (λ e. c.if2.true (call.check.ensures ∙ e)),
+      le-leb _ _ call.before.before.if-n-gt-LONGEST_COMMAND.false,
+      ne_eqb (check_of (message_in s)) 0 (λ e. c.if-check-ne0.true (call.check.ensures ∙ e)),
     )
 
-array-read-one-of-them : tie.Need-array-read-one-of-them
-array-read-one-of-them c = search rules
+bounds-message-0 : tie.Need-bounds-message-0
+bounds-message-0 c = search rules
 
-one-of-them-requires : tie.Need-one-of-them-requires
-one-of-them-requires c κs = search rules
+one_of_them-requires : tie.Need-one_of_them-requires
+one_of_them-requires c κs = search rules
 
-returns-3 : tie.Need-returns-3
+returns : tie.Need-returns
 unfolding holds_one
-returns-3 c =
+returns c =
     let call = c.before.before in
-    let few = call.before.before.if1.false in
+    let few = call.before.before.if-n-gt-LONGEST_COMMAND.false in
     let s = call.before.before.before.before.before.args.s in
-    let good : check_of (message_in s) ≡ 0 = sym call.check.ensures ∙ c.before.if2.false in
-    let size : length s.message ≡ longest_command = search rules in
-    let some : 1 ≤ s.length = good_some s.length s.message (omega (arith, few, size)) good in
-    simp (le-leb _ _ few, eq-eqb _ _ good, first_byte s.length s.message some) c.one-of-them.ensures
+    let good : check_of (message_in s) ≡ 0 = sym call.check.ensures ∙ c.before.if-check-ne0.false in
+    let size : length s.message-1 ≡ longest_command = search rules in
+    let some : 1 ≤ s.length = good_some s.length s.message-1 (omega (arith, few, size)) good in
+    simp (le-leb _ _ few, eq-eqb _ _ good, first_byte s.length s.message-1 some) c.one_of_them.ensures
 
 pub holds_one_spec : {M : Type 1} → statement M
 holds_one_spec =
     tie.close
     (tie.spec
-    cast-n
-    returns
-    array-share-prefix-message
-    slice-aggregate-check
+    overflow_cast-n
+    returns-then-n-gt-LONGEST_COMMAND
+    slice_bounds-message-end
+    slice_bounds-check-end
     check-requires
-    returns-2
-    array-read-one-of-them
-    one-of-them-requires
-    returns-3)
+    returns-then-check-ne0
+    bounds-message-0
+    one_of_them-requires
+    returns)

@@ -17,44 +17,44 @@ use Rattle.commands.proofs.Refusing.{taken}
 use Rattle.commands.proofs.place.Statement.{statement}
 use Rattle.commands.proofs.place.Tie as tie
 
-cast-t5 : tie.Need-overflow-cast-t5
-cast-t5 c =
+overflow_cast-new : tie.Need-overflow_cast-new
+overflow_cast-new c =
     let s = c.before in
     let a = s.args in
     let ok = taken a.message.now (row a.q) s.requires in
     let few = few_bytes a.message.now ok.good ok.one in
     omega (arith, few)
 
-with-flag-requires : tie.Need-with-flag-requires
-with-flag-requires c κs =
+with_flag-requires : tie.Need-with_flag-requires
+with_flag-requires c κs =
     let s = c.before in
     let a = s.args in
     let ok = taken a.message.now (row a.q) s.requires in
     (good_length a.message.now ok.good, few_bytes a.message.now ok.good ok.one)
 
-put-in-requires : tie.Need-put-in-requires
-put-in-requires c κs = search rules
+put_in-requires : tie.Need-put_in-requires
+put_in-requires c κs = search rules
 
-put-in-requires-2 : tie.Need-put-in-requires-2
-put-in-requires-2 c κs = search rules
+put_in-requires-2 : tie.Need-put_in-requires-2
+put_in-requires-2 c κs = search rules
 
-put-in-requires-3 : tie.Need-put-in-requires-3
-put-in-requires-3 c κs = search rules
+put_in-requires-3 : tie.Need-put_in-requires-3
+put_in-requires-3 c κs = search rules
 
-put-in-requires-4 : tie.Need-put-in-requires-4
-put-in-requires-4 c κs = search rules
+put_in-requires-4 : tie.Need-put_in-requires-4
+put_in-requires-4 c κs = search rules
 
-put-in-requires-5 : tie.Need-put-in-requires-5
-put-in-requires-5 c κs = search rules
+put_in-requires-5 : tie.Need-put_in-requires-5
+put_in-requires-5 c κs = search rules
 
-put-in-requires-6 : tie.Need-put-in-requires-6
-put-in-requires-6 c κs = search rules
+put_in-requires-6 : tie.Need-put_in-requires-6
+put_in-requires-6 c κs = search rules
 
-put-in-requires-7 : tie.Need-put-in-requires-7
-put-in-requires-7 c κs = search rules
+put_in-requires-7 : tie.Need-put_in-requires-7
+put_in-requires-7 c κs = search rules
 
-put-in-requires-8 : tie.Need-put-in-requires-8
-put-in-requires-8 c κs = search rules
+put_in-requires-8 : tie.Need-put_in-requires-8
+put_in-requires-8 c κs = search rules
 
 returns : tie.Need-returns
 unfolding put_row
@@ -70,11 +70,11 @@ returns c =
     let q = s.args.q in
     let m = s.args.message.now in
     let ok = taken m (row q) s.requires in
-    let flag = c₁.before.with-flag in
+    let flag = c₁.before.with_flag in
     let new : List ℕ → Slot = λ b. record { length = length m; sent = 0; ticks = 0; message = b } in
     let same : new flag.result ≡ slot_of m = ap new flag.ensures in
-    (λ j. c₁.put_in.ensures j ∷ c₂.put-in2.ensures j ∷ c₃.put-in3.ensures j ∷ c₄.put-in4.ensures j
-    ∷ c₅.put-in5.ensures j ∷ c₆.put-in6.ensures j ∷ c₇.put-in7.ensures j ∷ c.put-in8.ensures j ∷ [])
+    (λ j. c₁.put_in.ensures j ∷ c₂.put_in-2.ensures j ∷ c₃.put_in-3.ensures j ∷ c₄.put_in-4.ensures j
+    ∷ c₅.put_in-5.ensures j ∷ c₆.put_in-6.ensures j ∷ c₇.put_in-7.ensures j ∷ c.put_in-8.ensures j ∷ [])
     ∙ ap (λ (x : Slot). put_row x true (row q)) same
     ∙ sym (puts (slot_of m) (row q) (sound_tests_lem (row q) ok.sound).first
     (omega (arith, waits_most (row q), eqb-false (waiting (row q)) 8 ok.room)))
@@ -83,14 +83,14 @@ pub place_spec : {M : Type 1} → statement M
 place_spec =
     tie.close
     (tie.spec
-    cast-t5
-    with-flag-requires
-    put-in-requires
-    put-in-requires-2
-    put-in-requires-3
-    put-in-requires-4
-    put-in-requires-5
-    put-in-requires-6
-    put-in-requires-7
-    put-in-requires-8
+    overflow_cast-new
+    with_flag-requires
+    put_in-requires
+    put_in-requires-2
+    put_in-requires-3
+    put_in-requires-4
+    put_in-requires-5
+    put_in-requires-6
+    put_in-requires-7
+    put_in-requires-8
     returns)

@@ -8,29 +8,29 @@ use Rattle.commands.proofs.Slotwise.{chain, sound_chain}
 use Rattle.commands.proofs.sound.Statement.{statement}
 use Rattle.commands.proofs.sound.Tie as tie
 
-front-ok-requires : tie.Need-front-ok-requires
-front-ok-requires c κs = search rules
+front_ok-a-requires : tie.Need-front_ok-a-requires
+front_ok-a-requires c κs = search rules
 
-behind-ok-requires : tie.Need-behind-ok-requires
-behind-ok-requires c κs = search rules
+behind_ok-b-requires : tie.Need-behind_ok-b-requires
+behind_ok-b-requires c κs = search rules
 
-behind-ok-requires-2 : tie.Need-behind-ok-requires-2
-behind-ok-requires-2 c κs = search rules
+behind_ok-c-requires : tie.Need-behind_ok-c-requires
+behind_ok-c-requires c κs = search rules
 
-behind-ok-requires-3 : tie.Need-behind-ok-requires-3
-behind-ok-requires-3 c κs = search rules
+behind_ok-d-requires : tie.Need-behind_ok-d-requires
+behind_ok-d-requires c κs = search rules
 
-behind-ok-requires-4 : tie.Need-behind-ok-requires-4
-behind-ok-requires-4 c κs = search rules
+behind_ok-e-requires : tie.Need-behind_ok-e-requires
+behind_ok-e-requires c κs = search rules
 
-behind-ok-requires-5 : tie.Need-behind-ok-requires-5
-behind-ok-requires-5 c κs = search rules
+behind_ok-f-requires : tie.Need-behind_ok-f-requires
+behind_ok-f-requires c κs = search rules
 
-behind-ok-requires-6 : tie.Need-behind-ok-requires-6
-behind-ok-requires-6 c κs = search rules
+behind_ok-g-requires : tie.Need-behind_ok-g-requires
+behind_ok-g-requires c κs = search rules
 
-behind-ok-requires-7 : tie.Need-behind-ok-requires-7
-behind-ok-requires-7 c κs = search rules
+behind_ok-h-requires : tie.Need-behind_ok-h-requires
+behind_ok-h-requires c κs = search rules
 
 returns : tie.Need-returns
 unfolding chain
@@ -43,20 +43,20 @@ returns c =
     let c₁ = c₂.before in
     let c₀ = c₁.before in
     let q = c₀.before.args.q in
-    (λ j. c₀.front-ok.ensures j && c₁.behind-ok.ensures j && c₂.behind-ok2.ensures j && c₃.behind-ok3.ensures j
-    && c₄.behind-ok4.ensures j && c₅.behind-ok5.ensures j && c₆.behind-ok6.ensures j && c.behind-ok7.ensures j)
+    (λ j. c₀.front_ok-a.ensures j && c₁.behind_ok-b.ensures j && c₂.behind_ok-c.ensures j && c₃.behind_ok-d.ensures j
+    && c₄.behind_ok-e.ensures j && c₅.behind_ok-f.ensures j && c₆.behind_ok-g.ensures j && c.behind_ok-h.ensures j)
     ∙ sym (sound_chain q.s0 (q.s1 ∷ q.s2 ∷ q.s3 ∷ q.s4 ∷ q.s5 ∷ q.s6 ∷ q.s7 ∷ []) refl)
 
 pub sound_spec : {M : Type 1} → statement M
 sound_spec =
     tie.close
     (tie.spec
-    front-ok-requires
-    behind-ok-requires
-    behind-ok-requires-2
-    behind-ok-requires-3
-    behind-ok-requires-4
-    behind-ok-requires-5
-    behind-ok-requires-6
-    behind-ok-requires-7
+    front_ok-a-requires
+    behind_ok-b-requires
+    behind_ok-c-requires
+    behind_ok-d-requires
+    behind_ok-e-requires
+    behind_ok-f-requires
+    behind_ok-g-requires
+    behind_ok-h-requires
     returns)

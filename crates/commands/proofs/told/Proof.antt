@@ -13,14 +13,14 @@ use Rattle.commands.proofs.told.Statement.{statement}
 use Rattle.commands.proofs.told.Tie as tie
 
 -- the call, from past the first test
-abbrev start : tie.Else1 → tie.Start
+abbrev start : tie.Else-not-sound → tie.Start
 start c = c.before.before.before
 
-is_sound_lem : (c : tie.Else1) → sound (row (start c).args.q) ≡ true
-is_sound_lem c = sym c.before.sound.ensures ∙ not-false _ c.if1.false
+is_sound_lem : (c : tie.Else-not-sound) → sound (row (start c).args.q) ≡ true
+is_sound_lem c = sym c.before.sound.ensures ∙ not-false _ c.if-not-sound.false-raw
 
-is_good : (c : tie.Else2) → check_of (start c.before.before).args.message.now ≡ 0
-is_good c = sym c.before.check.ensures ∙ c.if2.false
+is_good : (c : tie.Else-number-ne0) → check_of (start c.before.before).args.message.now ≡ 0
+is_good c = sym c.before.check-number.ensures ∙ c.if-number-ne0.false-raw
 
 sound-requires : tie.Need-sound-requires
 sound-requires c κs = search rules
@@ -28,53 +28,53 @@ sound-requires c κs = search rules
 refused-requires : tie.Need-refused-requires
 refused-requires c κs = search rules
 
-returns : tie.Need-returns
-returns c =
+returns-then-not-sound : tie.Need-returns-then-not-sound
+returns-then-not-sound c =
     let call = c.before.before in
     let a = call.before.before.args in
     ap (λ (x : Answer). after x (row a.q)) c.refused.ensures
     ∙ sym
-    (told_unsound (row a.q) (sym call.sound.ensures ∙ not-true _ c.before.if1.true) a.message.now)
+    (told_unsound (row a.q) (sym call.sound.ensures ∙ not-true _ c.before.if-not-sound.true-raw) a.message.now)
 
-check-requires : tie.Need-check-requires
-check-requires c κs = search rules
+check-number-requires : tie.Need-check-number-requires
+check-number-requires c κs = search rules
 
-refused-requires-2 : tie.Need-refused-requires-2
-refused-requires-2 c κs = search rules
+refused-requires-then-number-ne0 : tie.Need-refused-requires-then-number-ne0
+refused-requires-then-number-ne0 c κs = search rules
 
-returns-2 : tie.Need-returns-2
-returns-2 c =
+returns-then-number-ne0 : tie.Need-returns-then-number-ne0
+returns-then-number-ne0 c =
     let call = c.before.before in
-    let e = call.check.ensures in
+    let e = call.check-number.ensures in
     let a = (start call.before).args in
     let xs = row a.q in
-    ap (λ (x : Answer). after x xs) c.refused2.ensures ∙ ap (λ (n : ℕ). after (says n 0 []) xs) e
-    ∙ sym (told_refused xs (is_sound_lem call.before) a.message.now (λ z. c.before.if2.true (e ∙ z)))
+    ap (λ (x : Answer). after x xs) c.refused-then-number-ne0.ensures ∙ ap (λ (n : ℕ). after (says n 0 []) xs) e
+    ∙ sym (told_refused xs (is_sound_lem call.before) a.message.now (λ z. c.before.if-number-ne0.true-raw (e ∙ z)))
 
 silent-requires : tie.Need-silent-requires
 silent-requires c κs = search rules
 
-returns-3 : tie.Need-returns-3
-returns-3 c =
+returns-then-q-eq0 : tie.Need-returns-then-q-eq0
+returns-then-q-eq0 c =
     let test = c.before in
     let good = test.before.before in
     let first = good.before.before in
     let a = (start first).args in
     let xs = row a.q in
-    rw (told_runs xs (is_sound_lem first) a.message.now (is_good good), eq-eqb _ _ test.if3.true)
+    rw (told_runs xs (is_sound_lem first) a.message.now (is_good good), eq-eqb _ _ test.if-q-eq0.true-raw)
     (ap (λ (x : Answer). after x xs) c.silent.ensures)
 
-shared-slice-read-hears : tie.Need-shared-slice-read-hears
-shared-slice-read-hears c = let test = c.before in good_length _ (is_good test.before.before)
+bounds-message-0 : tie.Need-bounds-message-0
+bounds-message-0 c = let test = c.before in good_length _ (is_good test.before.before)
 
 hears-requires : tie.Need-hears-requires
 hears-requires c κs =
     let test = c.before in
     let good = test.before.before in
-    (is_sound_lem good.before.before, ne_eqb _ _ test.if3.false)
+    (is_sound_lem good.before.before, ne_eqb _ _ test.if-q-eq0.false-raw)
 
-returns-4 : tie.Need-returns-4
-returns-4 c =
+returns : tie.Need-returns
+returns c =
     let good = c.before.before.before.before in
     let first = good.before.before in
     let a = (start first).args in
@@ -86,12 +86,12 @@ told_spec =
     (tie.spec
     sound-requires
     refused-requires
-    returns
-    check-requires
-    refused-requires-2
-    returns-2
+    returns-then-not-sound
+    check-number-requires
+    refused-requires-then-number-ne0
+    returns-then-number-ne0
     silent-requires
-    returns-3
-    shared-slice-read-hears
+    returns-then-q-eq0
+    bounds-message-0
     hears-requires
-    returns-4)
+    returns)

@@ -17,14 +17,14 @@ slice-aggregate-copy c = search rules
 copy-requires : tie.Need-copy-requires
 copy-requires c κs = search rules
 
-array-read-array : tie.Need-array-read-array
-array-read-array c = search rules
+bounds-array-0 : tie.Need-bounds-array-0
+bounds-array-0 c = search rules
 
-add-array : tie.Need-overflow-add-array
-add-array c = search rules
+overflow_add-array : tie.Need-overflow_add-array
+overflow_add-array c = search rules
 
-array-write-array : tie.Need-array-write-array
-array-write-array c = search rules
+bounds-array-0-2 : tie.Need-bounds-array-0-2
+bounds-array-0-2 c = search rules
 
 returns : tie.Need-returns
 returns c =
@@ -38,4 +38,4 @@ returns c =
 pub with_flag_spec : {M : Type 1} → statement M
 with_flag_spec =
     tie.close
-    (tie.spec slice-aggregate-copy copy-requires array-read-array add-array array-write-array returns)
+    (tie.spec slice-aggregate-copy copy-requires bounds-array-0 overflow_add-array bounds-array-0-2 returns)

@@ -4,26 +4,26 @@ use lib.Bits.{and_le_r}
 use Rattle.frames.proofs.are_digits.Statement.{statement}
 use Rattle.frames.proofs.are_digits.Tie as tie
 
-mul-result : tie.Need-overflow-mul-result
-mul-result c = search rules
+overflow_mul-result : tie.Need-overflow_mul-result
+overflow_mul-result c = search rules
 
-mul-result-2 : tie.Need-overflow-mul-result-2
-mul-result-2 c = search rules
+overflow_mul-result-2 : tie.Need-overflow_mul-result-2
+overflow_mul-result-2 c = search rules
 
-add-result : tie.Need-overflow-add-result
-add-result c = let a = c.args in omega (arith, c.requires.0, and_le_r a.characters (a.ones * 15))
+overflow_add-result : tie.Need-overflow_add-result
+overflow_add-result c = let a = c.args in omega (arith, c.requires.0, and_le_r a.characters (a.ones * 15))
 
-mul-result-3 : tie.Need-overflow-mul-result-3
-mul-result-3 c = search rules
+overflow_mul-result-3 : tie.Need-overflow_mul-result-3
+overflow_mul-result-3 c = search rules
 
-add-result-2 : tie.Need-overflow-add-result-2
-add-result-2 c = search rules
+overflow_add-result-2 : tie.Need-overflow_add-result-2
+overflow_add-result-2 c = search rules
 
-mul-result-4 : tie.Need-overflow-mul-result-4
-mul-result-4 c = search rules
+overflow_mul-result-4 : tie.Need-overflow_mul-result-4
+overflow_mul-result-4 c = search rules
 
-add-result-3 : tie.Need-overflow-add-result-3
-add-result-3 c =
+overflow_add-result-3 : tie.Need-overflow_add-result-3
+overflow_add-result-3 c =
     let a = c.args in
     omega (
       arith,
@@ -39,11 +39,11 @@ pub are_digits_spec : {M : Type 1} → statement M
 are_digits_spec =
     tie.close
     (tie.spec
-    mul-result
-    mul-result-2
-    add-result
-    mul-result-3
-    add-result-2
-    mul-result-4
-    add-result-3
+    overflow_mul-result
+    overflow_mul-result-2
+    overflow_add-result
+    overflow_mul-result-3
+    overflow_add-result-2
+    overflow_mul-result-4
+    overflow_add-result-3
     returns)

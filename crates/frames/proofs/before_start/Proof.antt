@@ -6,57 +6,57 @@ use Rattle.frames.proofs.Skips.{passed_none, pass_byte, before_this, before_all}
 use Rattle.frames.proofs.before_start.Statement.{statement}
 use Rattle.frames.proofs.before_start.Tie as tie
 
-abbrev invariant-loop : tie.invariant-loop
-invariant-loop bytes start i₀ i = Passed start i bytes
+abbrev invariant-loop-i : tie.invariant-loop-i
+invariant-loop-i bytes start i₀ i = Passed start i bytes
 
-abbrev decreases-loop : tie.decreases-loop
-decreases-loop bytes start i₀ i = length bytes - i
+abbrev decreases-loop-i : tie.decreases-loop-i
+decreases-loop-i bytes start i₀ i = length bytes - i
 
-shared-slice-read-if2 : tie.Need-shared-slice-read-if2 invariant-loop decreases-loop
-shared-slice-read-if2 c = search rules
+bounds-bytes-0 : tie.Need-bounds-bytes-0 invariant-loop-i decreases-loop-i
+bounds-bytes-0 c = search rules
 
-returns : tie.Need-returns invariant-loop decreases-loop
-returns c =
+returns-then-bytes-start : tie.Need-returns-then-bytes-start invariant-loop-i decreases-loop-i
+returns-then-bytes-start c =
     let call = c.before.before.before.before in
-    before_this (passed_none {bytes = call.args.bytes.now}) (omega arith) c.if2.true
+    before_this (passed_none {bytes = call.args.bytes.now}) (omega arith) c.if-bytes-start.true
 
-skip-blocks-requires : tie.Need-skip-blocks-requires invariant-loop decreases-loop
-skip-blocks-requires c κs = search rules
+skip_blocks-i-requires : tie.Need-skip_blocks-i-requires invariant-loop-i decreases-loop-i
+skip_blocks-i-requires c κs = search rules
 
-loop-holds : tie.Need-loop-init invariant-loop decreases-loop
-loop-holds c = search rules
+loop-i-init : tie.Need-loop-i-init invariant-loop-i decreases-loop-i
+loop-i-init c = search rules
 
-shared-slice-read-if3 : tie.Need-shared-slice-read-if3 invariant-loop decreases-loop
-shared-slice-read-if3 c = search rules
+bounds-bytes-i : tie.Need-bounds-bytes-i invariant-loop-i decreases-loop-i
+bounds-bytes-i c = search rules
 
-returns-2 : tie.Need-returns-2 invariant-loop decreases-loop
-returns-2 c = let turn = c.before.before.before in before_this turn.loop.invariant (omega arith) c.if3.true
+returns-then-bytes-i : tie.Need-returns-then-bytes-i invariant-loop-i decreases-loop-i
+returns-then-bytes-i c = let turn = c.before.before.before in before_this turn.loop-i.invariant (omega arith) c.if-bytes-i.true
 
-add-i : tie.Need-overflow-add-i invariant-loop decreases-loop
-add-i c = search rules
+overflow_add-i : tie.Need-overflow_add-i invariant-loop-i decreases-loop-i
+overflow_add-i c = search rules
 
-loop-less : tie.Need-loop-smaller invariant-loop decreases-loop
-loop-less c = search rules
+loop-i-smaller : tie.Need-loop-i-smaller invariant-loop-i decreases-loop-i
+loop-i-smaller c = search rules
 
-loop-again : tie.Need-loop-preserved invariant-loop decreases-loop
-loop-again c = let turn = c.before.before.before in pass_byte turn.loop.invariant (omega arith) c.if3.false
+loop-i-preserved : tie.Need-loop-i-preserved invariant-loop-i decreases-loop-i
+loop-i-preserved c = let turn = c.before.before.before in pass_byte turn.loop-i.invariant (omega arith) c.if-bytes-i.false
 
-returns-3 : tie.Need-returns-3 invariant-loop decreases-loop
-returns-3 c = before_all c.before.loop.invariant (omega arith)
+returns : tie.Need-returns invariant-loop-i decreases-loop-i
+returns c = before_all c.before.loop-i.invariant (omega arith)
 
 pub before_start_spec : {M : Type 1} → statement M
 before_start_spec =
     tie.close
     (tie.spec
-    invariant-loop
-    decreases-loop
-    shared-slice-read-if2
-    returns
-    skip-blocks-requires
-    loop-holds
-    shared-slice-read-if3
-    returns-2
-    add-i
-    loop-less
-    loop-again
-    returns-3)
+    invariant-loop-i
+    decreases-loop-i
+    bounds-bytes-0
+    returns-then-bytes-start
+    skip_blocks-i-requires
+    loop-i-init
+    bounds-bytes-i
+    returns-then-bytes-i
+    overflow_add-i
+    loop-i-smaller
+    loop-i-preserved
+    returns)

@@ -20,39 +20,39 @@ ranged c number letter h k l p q =
     (below (λ c. eqb (by_ranges ((c + 208) % 256) ((c + 191) % 256)) (digit_in c)) 256 tt c h))
 
 -- the character, from behind both differences
-abbrev call : tie.After-wrapping-sub-u82 → tie.Start
+abbrev call : tie.After-wrapping_sub_u8-letter → tie.Start
 call c = c.before.before
 
-is_ranged : (c : tie.After-wrapping-sub-u82)
-    → by_ranges c.before.wrapping-sub-u8.result c.wrapping-sub-u82.result ≡ digit_in (call c).args.c
+is_ranged : (c : tie.After-wrapping_sub_u8-letter)
+    → by_ranges c.before.wrapping_sub_u8-number.result c.wrapping_sub_u8-letter.result ≡ digit_in (call c).args.c
 is_ranged c =
-    ranged (call c).args.c c.before.wrapping-sub-u8.result c.wrapping-sub-u82.result (search rules)
-    (search rules) (search rules) (omega (arith, c.before.wrapping-sub-u8.ensures))
-    (omega (arith, c.wrapping-sub-u82.ensures))
+    ranged (call c).args.c c.before.wrapping_sub_u8-number.result c.wrapping_sub_u8-letter.result (search rules)
+    (search rules) (search rules) (omega (arith, c.before.wrapping_sub_u8-number.ensures))
+    (omega (arith, c.wrapping_sub_u8-letter.ensures))
 
-wrapping-sub-u8-requires : tie.Need-wrapping-sub-u8-requires
-wrapping-sub-u8-requires c κs = search rules
+wrapping_sub_u8-number-requires : tie.Need-wrapping_sub_u8-number-requires
+wrapping_sub_u8-number-requires c κs = search rules
 
-wrapping-sub-u8-requires-2 : tie.Need-wrapping-sub-u8-requires-2
-wrapping-sub-u8-requires-2 c κs = search rules
+wrapping_sub_u8-letter-requires : tie.Need-wrapping_sub_u8-letter-requires
+wrapping_sub_u8-letter-requires c κs = search rules
 
-add-other : tie.Need-overflow-add-other
-add-other c = search rules
+overflow_add-other : tie.Need-overflow_add-other
+overflow_add-other c = search rules
 
-returns : tie.Need-returns
-returns c =
-    let number = c.before.before.before.wrapping-sub-u8.result in
-    rw (lt-ltb number 10 (omega (arith, c.if2.true))) at (is_ranged c.before.before)
+returns-then-number-lt10 : tie.Need-returns-then-number-lt10
+returns-then-number-lt10 c =
+    let number = c.before.before.before.wrapping_sub_u8-number.result in
+    rw (lt-ltb number 10 (omega (arith, c.if-number-lt10.true))) at (is_ranged c.before.before)
 
-returns-2 : tie.Need-returns-2
-returns-2 c =
+returns-else-number-lt10 : tie.Need-returns-else-number-lt10
+returns-else-number-lt10 c =
     let both = c.before.before in
-    let letter = both.wrapping-sub-u82.result in
-    let above = le-ltb both.before.wrapping-sub-u8.result 10 (omega (arith, c.if2.false)) in
-    ⊎_elim (λ w. w.1 ∙ (rw (above, lt-ltb letter 6 (omega (arith, w.0.taken))) at (is_ranged both)))
-    (λ w. w.1 ∙ (rw (above, le-ltb letter 6 (omega (arith, w.0.left))) at (is_ranged both))) c.before.if1.branch
+    let letter = both.wrapping_sub_u8-letter.result in
+    let above = le-ltb both.before.wrapping_sub_u8-number.result 10 (omega (arith, c.if-number-lt10.false)) in
+    ⊎_elim (λ w. w.other-is ∙ (rw (above, lt-ltb letter 6 (omega (arith, w.if-letter-lt6.true))) at (is_ranged both)))
+    (λ w. w.other-is ∙ (rw (above, le-ltb letter 6 (omega (arith, w.if-letter-lt6.false))) at (is_ranged both))) c.before.if-letter-lt6.branch-raw
 
 pub digit_spec : {M : Type 1} → statement M
 digit_spec =
     tie.close
-    (tie.spec wrapping-sub-u8-requires wrapping-sub-u8-requires-2 add-other returns returns-2)
+    (tie.spec wrapping_sub_u8-number-requires wrapping_sub_u8-letter-requires overflow_add-other returns-then-number-lt10 returns-else-number-lt10)

@@ -3,82 +3,82 @@ use Rattle.std.proofs.Common.{rules}
 use Rattle.frames.proofs.eight_at.Statement.{statement}
 use Rattle.frames.proofs.eight_at.Tie as tie
 
-two-at-requires : tie.Need-two-at-requires
-two-at-requires c κs = search rules
+two_at-first-requires : tie.Need-two_at-first-requires
+two_at-first-requires c κs = search rules
 
-cast-first : tie.Need-overflow-cast-first
-cast-first c = search rules
+overflow_cast-first : tie.Need-overflow_cast-first
+overflow_cast-first c = search rules
 
-add-two-at : tie.Need-overflow-add-two-at
-add-two-at c = search rules
+overflow_add-at : tie.Need-overflow_add-at
+overflow_add-at c = search rules
 
-two-at-requires-2 : tie.Need-two-at-requires-2
-two-at-requires-2 c κs = search rules
+two_at-second-requires : tie.Need-two_at-second-requires
+two_at-second-requires c κs = search rules
 
-cast-second : tie.Need-overflow-cast-second
-cast-second c = search rules
+overflow_cast-second : tie.Need-overflow_cast-second
+overflow_cast-second c = search rules
 
-add-two-at-2 : tie.Need-overflow-add-two-at-2
-add-two-at-2 c = search rules
+overflow_add-at-2 : tie.Need-overflow_add-at-2
+overflow_add-at-2 c = search rules
 
-two-at-requires-3 : tie.Need-two-at-requires-3
-two-at-requires-3 c κs = search rules
+two_at-third-requires : tie.Need-two_at-third-requires
+two_at-third-requires c κs = search rules
 
-cast-third : tie.Need-overflow-cast-third
-cast-third c = search rules
+overflow_cast-third : tie.Need-overflow_cast-third
+overflow_cast-third c = search rules
 
-add-two-at-3 : tie.Need-overflow-add-two-at-3
-add-two-at-3 c = search rules
+overflow_add-at-3 : tie.Need-overflow_add-at-3
+overflow_add-at-3 c = search rules
 
-two-at-requires-4 : tie.Need-two-at-requires-4
-two-at-requires-4 c κs = search rules
+two_at-fourth-requires : tie.Need-two_at-fourth-requires
+two_at-fourth-requires c κs = search rules
 
-cast-fourth : tie.Need-overflow-cast-fourth
-cast-fourth c = search rules
+overflow_cast-fourth : tie.Need-overflow_cast-fourth
+overflow_cast-fourth c = search rules
 
-mul-result : tie.Need-overflow-mul-result
-mul-result c = search rules
+overflow_mul-result : tie.Need-overflow_mul-result
+overflow_mul-result c = search rules
 
-add-result : tie.Need-overflow-add-result
-add-result c = search rules
+overflow_add-result : tie.Need-overflow_add-result
+overflow_add-result c = search rules
 
-mul-result-2 : tie.Need-overflow-mul-result-2
-mul-result-2 c = search rules
+overflow_mul-result-2 : tie.Need-overflow_mul-result-2
+overflow_mul-result-2 c = search rules
 
-add-result-2 : tie.Need-overflow-add-result-2
-add-result-2 c = search rules
+overflow_add-result-2 : tie.Need-overflow_add-result-2
+overflow_add-result-2 c = search rules
 
-mul-result-3 : tie.Need-overflow-mul-result-3
-mul-result-3 c = search rules
+overflow_mul-result-3 : tie.Need-overflow_mul-result-3
+overflow_mul-result-3 c = search rules
 
-add-result-3 : tie.Need-overflow-add-result-3
-add-result-3 c = search rules
+overflow_add-result-3 : tie.Need-overflow_add-result-3
+overflow_add-result-3 c = search rules
 
 returns : tie.Need-returns
 returns c =
     let third = c.before in
     let second = third.before in
-    rw (c.two-at4.ensures, third.two-at3.ensures, second.two-at2.ensures, second.before.two_at.ensures)
+    rw (c.two_at-fourth.ensures, third.two_at-third.ensures, second.two_at-second.ensures, second.before.two_at-first.ensures)
 
 pub eight_at_spec : {M : Type 1} → statement M
 eight_at_spec =
     tie.close
     (tie.spec
-    two-at-requires
-    cast-first
-    add-two-at
-    two-at-requires-2
-    cast-second
-    add-two-at-2
-    two-at-requires-3
-    cast-third
-    add-two-at-3
-    two-at-requires-4
-    cast-fourth
-    mul-result
-    add-result
-    mul-result-2
-    add-result-2
-    mul-result-3
-    add-result-3
+    two_at-first-requires
+    overflow_cast-first
+    overflow_add-at
+    two_at-second-requires
+    overflow_cast-second
+    overflow_add-at-2
+    two_at-third-requires
+    overflow_cast-third
+    overflow_add-at-3
+    two_at-fourth-requires
+    overflow_cast-fourth
+    overflow_mul-result
+    overflow_add-result
+    overflow_mul-result-2
+    overflow_add-result-2
+    overflow_mul-result-3
+    overflow_add-result-3
     returns)

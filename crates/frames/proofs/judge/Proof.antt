@@ -5,60 +5,60 @@ use Rattle.frames.proofs.Judges.{said_none, said_four, said_short}
 use Rattle.frames.proofs.judge.Statement.{statement}
 use Rattle.frames.proofs.judge.Tie as tie
 
-returns : tie.Need-returns
-returns c = said_none c.before.before.args.frame.now c.if1.true
+returns-then-frame-eq0 : tie.Need-returns-then-frame-eq0
+returns-then-frame-eq0 c = said_none c.before.before.args.frame.now c.if-frame-eq0.true-raw
 
-shared-slice-read-length : tie.Need-shared-slice-read-length
-shared-slice-read-length c = search rules
+bounds-frame-0 : tie.Need-bounds-frame-0
+bounds-frame-0 c = search rules
 
-length-ok-requires : tie.Need-length-ok-requires
-length-ok-requires c κs = search rules
+length_ok-requires : tie.Need-length_ok-requires
+length_ok-requires c κs = search rules
 
 plain-requires : tie.Need-plain-requires
 plain-requires c κs = search rules
 
-returns-2 : tie.Need-returns-2
-returns-2 c =
+returns-then-not-length_ok : tie.Need-returns-then-not-length_ok
+returns-then-not-length_ok c =
     let some = c.before.before.before.before in
     c.plain.ensures
-    ∙ said_four some.before.before.args.frame.now some.if1.false
-    (sym c.before.before.length_ok_lem.ensures ∙ not-true _ c.before.if2.true)
+    ∙ said_four some.before.before.args.frame.now some.if-frame-eq0.false-raw
+    (sym c.before.before.length_ok.ensures ∙ not-true _ c.before.if-not-length_ok.true-raw)
 
-cast-if3 : tie.Need-overflow-cast-if3
-cast-if3 c = omega (arith, c.before.before.shared-slice-known2.given 0)
+overflow_cast-length : tie.Need-overflow_cast-length
+overflow_cast-length c = omega (arith, c.before.before.shared_slice_known-2-1.given 0)
 
-add-if3 : tie.Need-overflow-add-if3
-add-if3 c = omega (arith, c.before.before.shared-slice-known2.given 0)
+overflow_add-length : tie.Need-overflow_add-length
+overflow_add-length c = omega (arith, c.before.before.shared_slice_known-2-1.given 0)
 
-returns-3 : tie.Need-returns-3
-returns-3 c =
+returns-then-frame-length : tie.Need-returns-then-frame-length
+returns-then-frame-length c =
     let f = c.before.before.before.before.before.before.args.frame.now in
-    said_short f (sym c.before.before.length_ok_lem.ensures ∙ not-false _ c.before.if2.false) c.if3.true
+    said_short f (sym c.before.before.length_ok.ensures ∙ not-false _ c.before.if-not-length_ok.false-raw) c.if-frame-length.true-raw
 
-judge-whole-requires : tie.Need-judge-whole-requires
-judge-whole-requires c κs = (
+judge_whole-requires : tie.Need-judge_whole-requires
+judge_whole-requires c κs = (
   refl,
   record {
-    known = sym c.before.before.length_ok_lem.ensures
-        ∙ not-false _ c.before.if2.false;
-    all = c.if3.false;
+    known = sym c.before.before.length_ok.ensures
+        ∙ not-false _ c.before.if-not-length_ok.false-raw;
+    all = c.if-frame-length.false-raw;
   },
 )
 
-returns-4 : tie.Need-returns-4
-returns-4 c = c.judge-whole.ensures
+returns : tie.Need-returns
+returns c = c.judge_whole.ensures
 
 pub judge_spec : {M : Type 1} → statement M
 judge_spec =
     tie.close
     (tie.spec
-    returns
-    shared-slice-read-length
-    length-ok-requires
+    returns-then-frame-eq0
+    bounds-frame-0
+    length_ok-requires
     plain-requires
-    returns-2
-    cast-if3
-    add-if3
-    returns-3
-    judge-whole-requires
-    returns-4)
+    returns-then-not-length_ok
+    overflow_cast-length
+    overflow_add-length
+    returns-then-frame-length
+    judge_whole-requires
+    returns)

@@ -13,40 +13,40 @@ use Rattle.frames.proofs.pair_at.Statement.{statement}
 use Rattle.frames.proofs.pair_at.Tie as tie
 
 -- the call, from what the characters are worth
-abbrev call : tie.After-worth → tie.Start
+abbrev call : tie.After-worth-values → tie.Start
 call c = c.before.before.before.before
 
-both_there : (c : tie.After-worth) → (call c).args.at + 2 ≤ length (call c).args.bytes.now
-both_there c = omega (arith, c.before.before.if1.false, (call c).requires)
+both_there : (c : tie.After-worth-values) → (call c).args.at + 2 ≤ length (call c).args.bytes.now
+both_there c = omega (arith, c.before.before.if-bytes-at-lt2.false-raw, (call c).requires)
 
-looked : (c : tie.After-worth)
+looked : (c : tie.After-worth-values)
     → let a = (call c).args in
-    Looked (two a.bytes.now a.at []) c.before.two_at.result 0x0101 c.worth.result
+    Looked (two a.bytes.now a.at []) c.before.two_at-characters.result 0x0101 c.worth-values.result
 unfolding lanes
 looked c =
     let a = (call c).args in
-    let known = c.before.before.before.shared-slice-known.given in
+    let known = c.before.before.before.shared_slice_known-1.given in
     record {
       bytes = two_bytes a.bytes.now a.at [] (λ k. omega (arith, known k)) bytes_none;
-      number = omega (arith, c.before.two_at.ensures);
+      number = omega (arith, c.before.two_at-characters.ensures);
       one = refl;
-      worth = c.worth.ensures;
+      worth = c.worth-values.ensures;
     }
 
-sub-if1 : tie.Need-overflow-sub-if1
-sub-if1 c = search rules
+overflow_sub-bytes : tie.Need-overflow_sub-bytes
+overflow_sub-bytes c = search rules
 
-returns : tie.Need-returns
-returns c = let a = c.before.before.args in pair_end a.bytes.now a.at c.if1.true
+returns-then-bytes-at-lt2 : tie.Need-returns-then-bytes-at-lt2
+returns-then-bytes-at-lt2 c = let a = c.before.before.args in pair_end a.bytes.now a.at c.if-bytes-at-lt2.true-raw
 
-two-at-requires : tie.Need-two-at-requires
-two-at-requires c κs = search rules
+two_at-characters-requires : tie.Need-two_at-characters-requires
+two_at-characters-requires c κs = search rules
 
-cast-characters : tie.Need-overflow-cast-characters
-cast-characters c = search rules
+overflow_cast-characters : tie.Need-overflow_cast-characters
+overflow_cast-characters c = search rules
 
-worth-requires : tie.Need-worth-requires
-worth-requires c κs = search rules
+worth-values-requires : tie.Need-worth-values-requires
+worth-values-requires c κs = search rules
 
 -- two digits make a byte
 pair_worth : (c d : ℕ) → digit_in c < 16 → digit_in d < 16
@@ -73,29 +73,29 @@ pair_none bytes at there not = by_high (ltb (digit_in (get_or bytes at 0)) 16) r
     by_high true e = by_low (ltb (digit_in (get_or bytes (at + 1) 0)) 16) refl (ltb-true (digit_in (get_or bytes at 0)) 16 e)
     by_high false e = pair_high bytes at there (ltb-false (digit_in (get_or bytes at 0)) 16 e)
 
-are-digits-requires : tie.Need-are-digits-requires
-are-digits-requires c κs = (omega arith, looked_few (looked c))
+are_digits-requires : tie.Need-are_digits-requires
+are_digits-requires c κs = (omega arith, looked_few (looked c))
 
-returns-2 : tie.Need-returns-2
-returns-2 c =
+returns-then-not-are_digits : tie.Need-returns-then-not-are_digits
+returns-then-not-are_digits c =
     let a = (call c.before.before).args in
     pair_none a.bytes.now a.at (both_there c.before.before)
-    (looked_other (looked c.before.before) (sym c.before.are-digits.ensures ∙ not-true _ c.if2.true))
+    (looked_other (looked c.before.before) (sym c.before.are_digits.ensures ∙ not-true _ c.if-not-are_digits.true-raw))
 
-mul-result : tie.Need-overflow-mul-result
-mul-result c = search rules
+overflow_mul-result : tie.Need-overflow_mul-result
+overflow_mul-result c = search rules
 
-add-result : tie.Need-overflow-add-result
-add-result c = omega (arith, looked_few (looked c.before.before))
+overflow_add-result : tie.Need-overflow_add-result
+overflow_add-result c = omega (arith, looked_few (looked c.before.before))
 
-cast-result : tie.Need-overflow-cast-result
-cast-result c = omega (arith, looked_few (looked c.before.before))
+overflow_cast-result : tie.Need-overflow_cast-result
+overflow_cast-result c = omega (arith, looked_few (looked c.before.before))
 
-returns-3 : tie.Need-returns-3
-returns-3 c =
+returns : tie.Need-returns
+returns c =
     let l = looked c.before.before in
     let a = (call c.before.before).args in
-    let passed = sym c.before.are-digits.ensures ∙ not-false _ c.if2.false in
+    let passed = sym c.before.are_digits.ensures ∙ not-false _ c.if-not-are_digits.false-raw in
     let high = looked_digits l passed 0 (omega arith) in
     let low = looked_digits l passed 1 (omega arith) in
     rw (
@@ -108,14 +108,14 @@ pub pair_at_spec : {M : Type 1} → statement M
 pair_at_spec =
     tie.close
     (tie.spec
-    sub-if1
-    returns
-    two-at-requires
-    cast-characters
-    worth-requires
-    are-digits-requires
-    returns-2
-    mul-result
-    add-result
-    cast-result
-    returns-3)
+    overflow_sub-bytes
+    returns-then-bytes-at-lt2
+    two_at-characters-requires
+    overflow_cast-characters
+    worth-values-requires
+    are_digits-requires
+    returns-then-not-are_digits
+    overflow_mul-result
+    overflow_add-result
+    overflow_cast-result
+    returns)

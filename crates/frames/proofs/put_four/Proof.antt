@@ -3,41 +3,41 @@ use Rattle.std.proofs.Common.{arith, length-set, rules}
 use Rattle.frames.proofs.put_four.Statement.{statement}
 use Rattle.frames.proofs.put_four.Tie as tie
 
-cast-frame : tie.Need-overflow-cast-frame
-cast-frame c = search rules
+overflow_cast-frame : tie.Need-overflow_cast-frame
+overflow_cast-frame c = search rules
 
-slice-write-frame : tie.Need-slice-write-frame
-slice-write-frame c = search rules
+bounds-frame-place : tie.Need-bounds-frame-place
+bounds-frame-place c = search rules
 
-cast-frame-2 : tie.Need-overflow-cast-frame-2
-cast-frame-2 c = search rules
+overflow_cast-frame-2 : tie.Need-overflow_cast-frame-2
+overflow_cast-frame-2 c = search rules
 
-add-frame : tie.Need-overflow-add-frame
-add-frame c = search rules
+overflow_add-frame : tie.Need-overflow_add-frame
+overflow_add-frame c = search rules
 
-slice-write-frame-2 : tie.Need-slice-write-frame-2
-slice-write-frame-2 c = simp length-set (omega (arith, c.requires))
+bounds-frame-place-2 : tie.Need-bounds-frame-place-2
+bounds-frame-place-2 c = simp length-set (omega (arith, c.requires))
 
-cast-frame-3 : tie.Need-overflow-cast-frame-3
-cast-frame-3 c = search rules
+overflow_cast-frame-3 : tie.Need-overflow_cast-frame-3
+overflow_cast-frame-3 c = search rules
 
-add-frame-2 : tie.Need-overflow-add-frame-2
-add-frame-2 c = search rules
+overflow_add-frame-2 : tie.Need-overflow_add-frame-2
+overflow_add-frame-2 c = search rules
 
-slice-write-frame-3 : tie.Need-slice-write-frame-3
-slice-write-frame-3 c = simp length-set (omega (arith, c.requires))
+bounds-frame-place-3 : tie.Need-bounds-frame-place-3
+bounds-frame-place-3 c = simp length-set (omega (arith, c.requires))
 
-cast-frame-4 : tie.Need-overflow-cast-frame-4
-cast-frame-4 c = search rules
+overflow_cast-frame-4 : tie.Need-overflow_cast-frame-4
+overflow_cast-frame-4 c = search rules
 
-add-frame-3 : tie.Need-overflow-add-frame-3
-add-frame-3 c = search rules
+overflow_add-frame-3 : tie.Need-overflow_add-frame-3
+overflow_add-frame-3 c = search rules
 
-slice-write-frame-4 : tie.Need-slice-write-frame-4
-slice-write-frame-4 c = simp length-set (omega (arith, c.requires))
+bounds-frame-place-4 : tie.Need-bounds-frame-place-4
+bounds-frame-place-4 c = simp length-set (omega (arith, c.requires))
 
-same_length : tie.Need-same-length
-same_length c = search rules
+shape_of-frame : tie.Need-shape_of-frame
+shape_of-frame c = search rules
 
 returns : tie.Need-returns
 returns c = search rules
@@ -46,16 +46,16 @@ pub put_four_spec : {M : Type 1} → statement M
 put_four_spec =
     tie.close
     (tie.spec
-    cast-frame
-    slice-write-frame
-    cast-frame-2
-    add-frame
-    slice-write-frame-2
-    cast-frame-3
-    add-frame-2
-    slice-write-frame-3
-    cast-frame-4
-    add-frame-3
-    slice-write-frame-4
-    same_length
+    overflow_cast-frame
+    bounds-frame-place
+    overflow_cast-frame-2
+    overflow_add-frame
+    bounds-frame-place-2
+    overflow_cast-frame-3
+    overflow_add-frame-2
+    bounds-frame-place-3
+    overflow_cast-frame-4
+    overflow_add-frame-3
+    bounds-frame-place-4
+    shape_of-frame
     returns)

@@ -5,62 +5,62 @@ use Rattle.frames.proofs.Skips.{pass_part}
 use Rattle.frames.proofs.skip_blocks.Statement.{statement}
 use Rattle.frames.proofs.skip_blocks.Tie as tie
 
-abbrev invariant-loop : tie.invariant-loop
-invariant-loop bytes start i₀ i = Passed start i bytes
+abbrev invariant-loop-i : tie.invariant-loop-i
+invariant-loop-i bytes start i₀ i = Passed start i bytes
 
-abbrev decreases-loop : tie.decreases-loop
-decreases-loop bytes start i₀ i = length bytes - i
+abbrev decreases-loop-i : tie.decreases-loop-i
+decreases-loop-i bytes start i₀ i = length bytes - i
 
-loop-holds : tie.Need-loop-init invariant-loop decreases-loop
-loop-holds c = search rules
+loop-i-init : tie.Need-loop-i-init invariant-loop-i decreases-loop-i
+loop-i-init c = search rules
 
-sub-loop : tie.Need-overflow-sub-loop invariant-loop decreases-loop
-sub-loop c = search rules
+overflow_sub-bytes : tie.Need-overflow_sub-bytes invariant-loop-i decreases-loop-i
+overflow_sub-bytes c = search rules
 
-add-end : tie.Need-overflow-add-end invariant-loop decreases-loop
-add-end c = search rules
+overflow_add-end : tie.Need-overflow_add-end invariant-loop-i decreases-loop-i
+overflow_add-end c = search rules
 
-sub-has-start : tie.Need-overflow-sub-has-start invariant-loop decreases-loop
-sub-has-start c = search rules
+slice_bounds-has_start-count : tie.Need-slice_bounds-has_start-count invariant-loop-i decreases-loop-i
+slice_bounds-has_start-count c = search rules
 
-part-has-start-start : tie.Need-slice-bounds-has-start-start invariant-loop decreases-loop
-part-has-start-start c = search rules
+slice_bounds-has_start-start : tie.Need-slice_bounds-has_start-start invariant-loop-i decreases-loop-i
+slice_bounds-has_start-start c = search rules
 
-part-has-start-end : tie.Need-slice-bounds-has-start-end invariant-loop decreases-loop
-part-has-start-end c = search rules
+slice_bounds-has_start-end : tie.Need-slice_bounds-has_start-end invariant-loop-i decreases-loop-i
+slice_bounds-has_start-end c = search rules
 
-has-start-requires : tie.Need-has-start-requires invariant-loop decreases-loop
-has-start-requires c κs = search rules
+has_start-requires : tie.Need-has_start-requires invariant-loop-i decreases-loop-i
+has_start-requires c κs = search rules
 
-returns : tie.Need-returns invariant-loop decreases-loop
-returns c = search rules
+returns-then-has_start : tie.Need-returns-then-has_start invariant-loop-i decreases-loop-i
+returns-then-has_start c = search rules
 
-loop-less : tie.Need-loop-smaller invariant-loop decreases-loop
-loop-less c = search rules
+loop-i-smaller : tie.Need-loop-i-smaller invariant-loop-i decreases-loop-i
+loop-i-smaller c = search rules
 
-loop-again : tie.Need-loop-preserved invariant-loop decreases-loop
-loop-again c =
+loop-i-preserved : tie.Need-loop-i-preserved invariant-loop-i decreases-loop-i
+loop-i-preserved c =
     let turn = c.before.before.before.before in
-    pass_part turn.loop.invariant _ (omega arith) (omega arith)
-    (sym c.before.has-start.ensures ∙ c.if1.false)
+    pass_part turn.loop-i.invariant _ (omega arith) (omega arith)
+    (sym c.before.has_start.ensures ∙ c.if-has_start.false)
 
-returns-2 : tie.Need-returns-2 invariant-loop decreases-loop
-returns-2 c = search rules
+returns : tie.Need-returns invariant-loop-i decreases-loop-i
+returns c = search rules
 
 pub skip_blocks_spec : {M : Type 1} → statement M
 skip_blocks_spec =
     tie.close
     (tie.spec
-    invariant-loop
-    decreases-loop
-    loop-holds
-    sub-loop
-    add-end
-    sub-has-start
-    part-has-start-start
-    part-has-start-end
-    has-start-requires
-    returns
-    loop-less
-    loop-again
-    returns-2)
+    invariant-loop-i
+    decreases-loop-i
+    loop-i-init
+    overflow_sub-bytes
+    overflow_add-end
+    slice_bounds-has_start-count
+    slice_bounds-has_start-start
+    slice_bounds-has_start-end
+    has_start-requires
+    returns-then-has_start
+    loop-i-smaller
+    loop-i-preserved
+    returns)

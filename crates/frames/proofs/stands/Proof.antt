@@ -3,11 +3,11 @@ use Rattle.std.proofs.Common.{le-ltb, lt-ltb}
 use Rattle.frames.proofs.stands.Statement.{statement}
 use Rattle.frames.proofs.stands.Tie as tie
 
-returns : tie.Need-returns
-returns c = rw (lt-ltb c.before.args.b 0x7D c.if1.true)
+returns-then-b-lt125 : tie.Need-returns-then-b-lt125
+returns-then-b-lt125 c = rw (lt-ltb c.before.args.b 0x7D c.if-b-lt125.true)
 
-returns-2 : tie.Need-returns-2
-returns-2 c = rw (le-ltb c.before.args.b 0x7D c.if1.false)
+returns-else-b-lt125 : tie.Need-returns-else-b-lt125
+returns-else-b-lt125 c = rw (le-ltb c.before.args.b 0x7D c.if-b-lt125.false)
 
 pub stands_spec : {M : Type 1} → statement M
-stands_spec = tie.close (tie.spec returns returns-2)
+stands_spec = tie.close (tie.spec returns-then-b-lt125 returns-else-b-lt125)

@@ -4,26 +4,26 @@ use lib.Bits.{and_le_r}
 use Rattle.frames.proofs.worth.Statement.{statement}
 use Rattle.frames.proofs.worth.Tie as tie
 
-mul-result : tie.Need-overflow-mul-result
-mul-result c = search rules
+overflow_mul-result : tie.Need-overflow_mul-result
+overflow_mul-result c = search rules
 
-mul-result-2 : tie.Need-overflow-mul-result-2
-mul-result-2 c = search rules
+overflow_mul-result-2 : tie.Need-overflow_mul-result-2
+overflow_mul-result-2 c = search rules
 
-mul-result-3 : tie.Need-overflow-mul-result-3
-mul-result-3 c = let a = c.args in omega (arith, c.requires, and_le_r a.characters (a.ones * 64))
+overflow_mul-result-3 : tie.Need-overflow_mul-result-3
+overflow_mul-result-3 c = let a = c.args in omega (arith, c.requires, and_le_r a.characters (a.ones * 64))
 
-add-result : tie.Need-overflow-add-result
-add-result c =
+overflow_add-result : tie.Need-overflow_add-result
+overflow_add-result c =
     let a = c.args in
     omega (arith, c.requires, and_le_r a.characters (a.ones * 15), and_le_r a.characters (a.ones * 64))
 
-mul-result-4 : tie.Need-overflow-mul-result-4
-mul-result-4 c = search rules
+overflow_mul-result-4 : tie.Need-overflow_mul-result-4
+overflow_mul-result-4 c = search rules
 
 returns : tie.Need-returns
 returns c = search rules
 
 pub worth_spec : {M : Type 1} → statement M
 worth_spec =
-    tie.close (tie.spec mul-result mul-result-2 mul-result-3 add-result mul-result-4 returns)
+    tie.close (tie.spec overflow_mul-result overflow_mul-result-2 overflow_mul-result-3 overflow_add-result overflow_mul-result-4 returns)

@@ -7,14 +7,14 @@ use Rattle.standard.proofs.Put.{copied_from, put_fits, put_unfit}
 use Rattle.puts.proofs.part.Statement.{statement}
 use Rattle.puts.proofs.part.Tie as tie
 
-returns : tie.Need-returns
-returns c = put_unfit _ _ _ (omega arith)
+returns-then-out-place : tie.Need-returns-then-out-place
+returns-then-out-place c = put_unfit _ _ _ (omega arith)
 
-sub-if2 : tie.Need-overflow-sub-if2
-sub-if2 c = search rules
+overflow_sub-out : tie.Need-overflow_sub-out
+overflow_sub-out c = search rules
 
-returns-2 : tie.Need-returns-2
-returns-2 c = put_unfit _ _ _ (omega arith)
+returns-then-out-place-2 : tie.Need-returns-then-out-place-2
+returns-then-out-place-2 c = put_unfit _ _ _ (omega arith)
 
 sub-copy : tie.Need-overflow-sub-copy
 sub-copy c = search rules
@@ -28,30 +28,30 @@ part-copy-end c = search rules
 copy-requires : tie.Need-copy-requires
 copy-requires c κs = search rules
 
-add-result : tie.Need-overflow-add-result
-add-result c = search rules
+overflow_add-result : tie.Need-overflow_add-result
+overflow_add-result c = search rules
 
-same_length : tie.Need-same-length
-same_length c = search rules
+shape_of-out : tie.Need-shape_of-out
+shape_of-out c = search rules
 
-returns-3 : tie.Need-returns-3
-returns-3 c =
+returns : tie.Need-returns
+returns c =
     let o = c.before.before in
     let a = o.before.before.before.before.before.before.args in
-    let fit : a.place + length a.bytes.now ≤ length a.out.now = omega arith in
-    put_fits (copied_from a.place a.bytes.now a.out.now fit o.copy.ensures.1) fit
+    let fit : a.place + length a.bytes.now ≤ length a.out-1.now = omega arith in
+    put_fits (copied_from a.place a.bytes.now a.out-1.now fit o.copy.ensures.1) fit
 
 pub part_spec : {M : Type 1} → statement M
 part_spec =
     tie.close
     (tie.spec
-    returns
-    sub-if2
-    returns-2
+    returns-then-out-place
+    overflow_sub-out
+    returns-then-out-place-2
     sub-copy
     part-copy-start
     part-copy-end
     copy-requires
-    add-result
-    same_length
-    returns-3)
+    overflow_add-result
+    shape_of-out
+    returns)

@@ -7,23 +7,23 @@ use Rattle.standard.proofs.Replies.{good_status, good_acknowledge, good_request}
 use Rattle.replies.proofs.good_reply.Statement.{statement}
 use Rattle.replies.proofs.good_reply.Tie as tie
 
-returns : tie.Need-returns
-returns c =
-    let t = c.before.before.args.type-byte in
+returns-then-type_byte-eq1 : tie.Need-returns-then-type_byte-eq1
+returns-then-type_byte-eq1 c =
+    let t = c.before.before.args.type_byte in
     let e : bit 7 t ≡ 1 = omega arith in
     sym (good_status t (omega arith) ∙ rw (eq-eqb (bit 7 t) 1 e))
 
-returns-2 : tie.Need-returns-2
-returns-2 c =
-    let t = c.before.before.args.type-byte in
-    let e : bit 7 t ≡ 1 → ⊥ = λ z. c.if2.false (omega arith) in
+returns-else-type_byte-eq1 : tie.Need-returns-else-type_byte-eq1
+returns-else-type_byte-eq1 c =
+    let t = c.before.before.args.type_byte in
+    let e : bit 7 t ≡ 1 → ⊥ = λ z. c.if-type_byte-eq1.false (omega arith) in
     sym (good_status t (omega arith) ∙ rw (ne_eqb (bit 7 t) 1 e))
 
-returns-3 : tie.Need-returns-3
-returns-3 c = sym (good_acknowledge c.before.before.args.type-byte (omega arith) (omega arith))
+returns-in-28-to-31 : tie.Need-returns-in-28-to-31
+returns-in-28-to-31 c = sym (good_acknowledge c.before.before.args.type_byte (omega arith) (omega arith))
 
-returns-4 : tie.Need-returns-4
-returns-4 c = sym (good_request c.before.before.args.type-byte (omega arith))
+returns-in_default : tie.Need-returns-in_default
+returns-in_default c = sym (good_request c.before.before.args.type_byte (omega arith))
 
 pub good_reply_spec : {M : Type 1} → statement M
-good_reply_spec = tie.close (tie.spec returns returns-2 returns-3 returns-4)
+good_reply_spec = tie.close (tie.spec returns-then-type_byte-eq1 returns-else-type_byte-eq1 returns-in-28-to-31 returns-in_default)

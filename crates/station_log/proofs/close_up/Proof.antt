@@ -10,78 +10,78 @@ use Rattle.station_log.proofs.Moving.{Moved, moved_none, Next, next, moved_one, 
 use Rattle.station_log.proofs.close_up.Statement.{statement}
 use Rattle.station_log.proofs.close_up.Tie as tie
 
-abbrev invariant-loop : tie.invariant-loop
-invariant-loop log₀ places n to₀ i₀ log to i = Moved log₀ places log to i
+abbrev invariant-loop-i : tie.invariant-loop-i
+invariant-loop-i log₀ places n to₀ i₀ log to i = Moved log₀ places log to i
 
-abbrev decreases-loop : tie.decreases-loop
-decreases-loop log₀ places n to₀ i₀ log to i = n - i
+abbrev decreases-loop-i : tie.decreases-loop-i
+decreases-loop-i log₀ places n to₀ i₀ log to i = n - i
 
-loop-holds : tie.Need-loop-init invariant-loop decreases-loop
-loop-holds c = let at = c.before.before in moved_none at.args.log.now at.args.places.now at.requires
+loop-i-init : tie.Need-loop-i-init invariant-loop-i decreases-loop-i
+loop-i-init c = let at = c.before.before in moved_none at.args.log-1.now at.args.places.now at.requires
 
-mul-move-record : tie.Need-overflow-mul-move-record invariant-loop decreases-loop
-mul-move-record c = search rules
+offset_bounds-places-i : tie.Need-offset_bounds-places-i invariant-loop-i decreases-loop-i
+offset_bounds-places-i c = search rules
 
-shared-slice-read-move-record : tie.Need-shared-slice-read-move-record invariant-loop decreases-loop
-shared-slice-read-move-record c = search rules
+bounds-places-i : tie.Need-bounds-places-i invariant-loop-i decreases-loop-i
+bounds-places-i c = search rules
 
-cast-move-record : tie.Need-overflow-cast-move-record invariant-loop decreases-loop
-cast-move-record c = omega (arith, c.shared-slice-known2.given c.before.before.before.loop.i)
+overflow_cast-places : tie.Need-overflow_cast-places invariant-loop-i decreases-loop-i
+overflow_cast-places c = omega (arith, c.shared_slice_known-in-loop-i-1.given c.before.before.before.loop-i.i)
 
 -- the record that is moved now
-ahead : (c : tie.After-shared-slice-known2 invariant-loop decreases-loop)
+ahead : (c : tie.After-shared_slice_known-in-loop-i-1 invariant-loop-i decreases-loop-i)
     → let a = c.before.before.before.before.before.before.args in
-    let l = c.before.before.before.loop in
-    Next a.log.now l.log l.to (get_or a.places.now l.i 0)
+    let l = c.before.before.before.loop-i in
+    Next a.log-1.now l.log-1 l.to (get_or a.places.now l.i 0)
 ahead c =
     let a = c.before.before.before.before.before.before.args in
-    let l = c.before.before.before.loop in
-    next a.log.now a.places.now l.log l.to l.i l.invariant c.before.before.loop-test.true
+    let l = c.before.before.before.loop-i in
+    next a.log-1.now a.places.now l.log-1 l.to l.i l.invariant c.before.before.loop-i-test.true
 
-move-record-requires : tie.Need-move-record-requires invariant-loop decreases-loop
-move-record-requires c κs = let n = ahead c in (n.inside, n.behind)
+move_record-to-requires : tie.Need-move_record-to-requires invariant-loop-i decreases-loop-i
+move_record-to-requires c κs = let n = ahead c in (n.inside, n.behind)
 
-add-i : tie.Need-overflow-add-i invariant-loop decreases-loop
-add-i c = search rules
+overflow_add-i : tie.Need-overflow_add-i invariant-loop-i decreases-loop-i
+overflow_add-i c = search rules
 
-loop-less : tie.Need-loop-smaller invariant-loop decreases-loop
-loop-less c = let t = c.before.before.before.before.before.loop-test.true in omega arith
+loop-i-smaller : tie.Need-loop-i-smaller invariant-loop-i decreases-loop-i
+loop-i-smaller c = let t = c.before.before.before.before.before.loop-i-test.true in omega arith
 
-loop-again : tie.Need-loop-preserved invariant-loop decreases-loop
-loop-again c =
+loop-i-preserved : tie.Need-loop-i-preserved invariant-loop-i decreases-loop-i
+loop-i-preserved c =
     let call = c.before.before in
     let turn = call.before.before.before in
-    let l = turn.before.loop in
+    let l = turn.before.loop-i in
     let a = turn.before.before.before.before.args in
-    let went = moved_one a.log.now a.places.now l.log l.to l.i l.invariant turn.loop-test.true
-    call.move-record.ensures.1 in
-    subst (λ (k : ℕ). Moved a.log.now a.places.now call.move-record.new.0 k (l.i + 1))
-    (sym call.move-record.ensures.0) went
+    let went = moved_one a.log-1.now a.places.now l.log-1 l.to l.i l.invariant turn.loop-i-test.true
+    call.move_record-to.ensures.1 in
+    subst (λ (k : ℕ). Moved a.log-1.now a.places.now call.move_record-to.new.0 k (l.i + 1))
+    (sym call.move_record-to.ensures.0) went
 
-same_length : tie.Need-same-length invariant-loop decreases-loop
-same_length c = put_length c.before.loop.invariant.moved
+shape_of-log : tie.Need-shape_of-log invariant-loop-i decreases-loop-i
+shape_of-log c = put_length c.before.loop-i.invariant.moved
 
-returns : tie.Need-returns invariant-loop decreases-loop
+returns : tie.Need-returns invariant-loop-i decreases-loop-i
 returns c =
-    let l = c.before.loop in
+    let l = c.before.loop-i in
     let a = c.before.before.before.before.args in
     let within = l.invariant.within in
-    let left = c.loop-test.false in
-    moved_all a.log.now a.places.now l.log l.to l.i l.invariant (omega arith)
+    let left = c.loop-i-test.false in
+    moved_all a.log-1.now a.places.now l.log-1 l.to l.i l.invariant (omega arith)
 
 pub close_up_spec : {M : Type 1} → statement M
 close_up_spec =
     tie.close
     (tie.spec
-    invariant-loop
-    decreases-loop
-    loop-holds
-    mul-move-record
-    shared-slice-read-move-record
-    cast-move-record
-    move-record-requires
-    add-i
-    loop-less
-    loop-again
-    same_length
+    invariant-loop-i
+    decreases-loop-i
+    loop-i-init
+    offset_bounds-places-i
+    bounds-places-i
+    overflow_cast-places
+    move_record-to-requires
+    overflow_add-i
+    loop-i-smaller
+    loop-i-preserved
+    shape_of-log
     returns)

@@ -8,39 +8,39 @@ use Rattle.station_log.proofs.Abouts.{about_zone, about_zones, about_before, abo
 use Rattle.station_log.proofs.is_about.Statement.{statement}
 use Rattle.station_log.proofs.is_about.Tie as tie
 
-shared-slice-read-first : tie.Need-shared-slice-read-first
-shared-slice-read-first c = search rules
+bounds-message-1 : tie.Need-bounds-message-1
+bounds-message-1 c = search rules
 
-shared-slice-read-match : tie.Need-shared-slice-read-match
-shared-slice-read-match c = search rules
+bounds-message-0 : tie.Need-bounds-message-0
+bounds-message-0 c = search rules
 
-returns : tie.Need-returns
-returns c = let a = c.before.before.before.args in sym (about_zone a.zone a.message.now c.match.keys1)
+returns-in-4 : tie.Need-returns-in-4
+returns-in-4 c = let a = c.before.before.before.args in sym (about_zone a.zone a.message.now c.in-4.is)
 
-returns-2 : tie.Need-returns-2
-returns-2 c =
+returns-then-first-zone : tie.Need-returns-then-first-zone
+returns-then-first-zone c =
     let a = c.before.before.before.before.args in
-    sym (about_zones a.zone a.message.now c.before.match.keys2 c.if1.true)
+    sym (about_zones a.zone a.message.now c.before.in-5.is c.if-first-zone.true)
 
-returns-3 : tie.Need-returns-3
-returns-3 c =
+returns-else-first-zone : tie.Need-returns-else-first-zone
+returns-else-first-zone c =
     let a = c.before.before.before.before.args in
-    let before = c.if1.false in
+    let before = c.if-first-zone.false in
     lt-leb (byte 2 a.message.now) a.zone (omega arith)
-    ∙ sym (about_before a.zone a.message.now c.before.match.keys2 (omega arith))
+    ∙ sym (about_before a.zone a.message.now c.before.in-5.is (omega arith))
 
-returns-4 : tie.Need-returns-4
-returns-4 c =
+returns-in_default : tie.Need-returns-in_default
+returns-in_default c =
     let a = c.before.before.before.args in
-    sym (about_other a.zone a.message.now c.match.rest.0.1 c.match.rest.1)
+    sym (about_other a.zone a.message.now c.in_default.in_default-own.rest.0.1 c.in_default.in_default-own.rest.1)
 
 pub is_about_spec : {M : Type 1} → statement M
 is_about_spec =
     tie.close
     (tie.spec
-    shared-slice-read-first
-    shared-slice-read-match
-    returns
-    returns-2
-    returns-3
-    returns-4)
+    bounds-message-1
+    bounds-message-0
+    returns-in-4
+    returns-then-first-zone
+    returns-else-first-zone
+    returns-in_default)

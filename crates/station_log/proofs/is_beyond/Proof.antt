@@ -8,16 +8,16 @@ use Rattle.station_log.specs.Log.{log_most}
 use Rattle.station_log.proofs.is_beyond.Statement.{statement}
 use Rattle.station_log.proofs.is_beyond.Tie as tie
 
-returns : tie.Need-returns
-returns c =
+returns-then-log-end : tie.Need-returns-then-log-end
+returns-then-log-end c =
     let a = c.before.args in
-    let e = lt-ltb (length a.log.now) a.end c.if1.true in
+    let e = lt-ltb (length a.log.now) a.end c.if-log-end.true in
     e ∙ sym (ap (λ t. t || ltb log_most a.end) e)
 
-returns-2 : tie.Need-returns-2
-returns-2 c =
+returns-else-log-end : tie.Need-returns-else-log-end
+returns-else-log-end c =
     let a = c.before.args in
-    sym (ap (λ t. t || ltb log_most a.end) (le-ltb (length a.log.now) a.end c.if1.false))
+    sym (ap (λ t. t || ltb log_most a.end) (le-ltb (length a.log.now) a.end c.if-log-end.false))
 
 pub is_beyond_spec : {M : Type 1} → statement M
-is_beyond_spec = tie.close (tie.spec returns returns-2)
+is_beyond_spec = tie.close (tie.spec returns-then-log-end returns-else-log-end)

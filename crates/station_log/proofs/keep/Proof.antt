@@ -36,53 +36,53 @@ kept log used m h e =
       leaves = rw h e;
     }
 
-abbrev start : tie.After-keep-refusal → tie.Start
+abbrev start : tie.After-keep_refusal-number → tie.Start
 start c = c.before.before.before.before
 
-is : (c : tie.Else1) → let a = (start c.before).args in keep_refusal a.log.now a.used a.message.now ≡ 0
-is c = sym c.before.keep-refusal.ensures ∙ c.if1.false
+is : (c : tie.Else-number-ne0) → let a = (start c.before).args in keep_refusal a.log-1.now a.used a.message.now ≡ 0
+is c = sym c.before.keep_refusal-number.ensures ∙ c.if-number-ne0.false
 
-keep-refusal-requires : tie.Need-keep-refusal-requires
-keep-refusal-requires c κs = search rules
+keep_refusal-number-requires : tie.Need-keep_refusal-number-requires
+keep_refusal-number-requires c κs = search rules
 
-same_length : tie.Need-same-length
-same_length c = search rules
+shape_of-log-then-number-ne0 : tie.Need-shape_of-log-then-number-ne0
+shape_of-log-then-number-ne0 c = search rules
 
-returns : tie.Need-returns
-returns c =
+returns-then-number-ne0 : tie.Need-returns-then-number-ne0
+returns-then-number-ne0 c =
     let a = (start c.before).args in
-    refused a.log.now a.used a.message.now c.before.keep-refusal.ensures c.if1.true
+    refused a.log-1.now a.used a.message.now c.before.keep_refusal-number.ensures c.if-number-ne0.true
 
 put-requires : tie.Need-put-requires
 put-requires c κs =
     let a = (start c.before.before).args in
-    let t = taken a.log.now a.used a.message.now (is c.before) in
+    let t = taken a.log-1.now a.used a.message.now (is c.before) in
     let few = good_few a.message.now (status_is a.message.now t.kept).0 in
     let room = t.room.buffer in
     let size = length-append a.message.now (length a.message.now ∷ []) in
     (omega arith, omega arith)
 
-add-t12 : tie.Need-overflow-add-t12
-add-t12 c = search rules
+overflow_add-result : tie.Need-overflow_add-result
+overflow_add-result c = search rules
 
-same-length-2 : tie.Need-same-length-2
-same-length-2 c = search rules
+shape_of-log : tie.Need-shape_of-log
+shape_of-log c = search rules
 
-returns-2 : tie.Need-returns-2
-returns-2 c =
+returns : tie.Need-returns
+returns c =
     let put = c.before.before in
     let past = put.before.before in
     let a = (start past.before).args in
-    kept a.log.now a.used a.message.now (is past) put.put.ensures
+    kept a.log-1.now a.used a.message.now (is past) put.put.ensures
 
 pub keep_spec : {M : Type 1} → statement M
 keep_spec =
     tie.close
     (tie.spec
-    keep-refusal-requires
-    same_length
-    returns
+    keep_refusal-number-requires
+    shape_of-log-then-number-ne0
+    returns-then-number-ne0
     put-requires
-    add-t12
-    same-length-2
-    returns-2)
+    overflow_add-result
+    shape_of-log
+    returns)

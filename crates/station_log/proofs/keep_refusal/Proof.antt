@@ -17,80 +17,80 @@ use Rattle.station_log.proofs.keep_refusal.Tie as tie
 
 -- ---- what was handed in, and what is known past each test
 
-abbrev log_of : tie.After-is-beyond → List ℕ
+abbrev log_of : tie.After-is_beyond → List ℕ
 log_of c = c.before.before.before.args.log.now
 
-abbrev used_of : tie.After-is-beyond → ℕ
+abbrev used_of : tie.After-is_beyond → ℕ
 used_of c = c.before.before.before.args.used
 
-abbrev message_of : tie.After-is-beyond → List ℕ
+abbrev message_of : tie.After-is_beyond → List ℕ
 message_of c = c.before.before.before.args.message.now
 
-within : (c : tie.Else1) → beyond (log_of c.before) (used_of c.before) ≡ false
-within c = sym c.before.is-beyond.ensures ∙ c.if1.false
+within : (c : tie.Else-is_beyond) → beyond (log_of c.before) (used_of c.before) ≡ false
+within c = sym c.before.is_beyond.ensures ∙ c.if-is_beyond.false-raw
 
-abbrev past_1 : tie.After-is-sound → tie.Else1
+abbrev past_1 : tie.After-is_sound → tie.Else-is_beyond
 past_1 c = c.before.before
 
-sounds : (c : tie.Else2) → let at = (past_1 c.before).before in sound (take (used_of at) (log_of at)) ≡ true
-sounds c = sym c.before.is_sound_lem.ensures ∙ not-false _ c.if2.false
+sounds : (c : tie.Else-not-is_sound) → let at = (past_1 c.before).before in sound (take (used_of at) (log_of at)) ≡ true
+sounds c = sym c.before.is_sound.ensures ∙ not-false _ c.if-not-is_sound.false-raw
 
-abbrev past_2 : tie.After-check → tie.Else2
+abbrev past_2 : tie.After-check-own → tie.Else-not-is_sound
 past_2 c = c.before
 
-passes : (c : tie.Else3) → check_of (message_of (past_1 (past_2 c.before).before).before) ≡ 0
-passes c = sym c.before.check.ensures ∙ c.if3.false
+passes : (c : tie.Else-own-ne0) → check_of (message_of (past_1 (past_2 c.before).before).before) ≡ 0
+passes c = sym c.before.check-own.ensures ∙ c.if-own-ne0.false-raw
 
-abbrev past_3 : tie.After-is-status → tie.Else3
+abbrev past_3 : tie.After-is_status → tie.Else-own-ne0
 past_3 c = c.before
 
-is-beyond-requires : tie.Need-is-beyond-requires
-is-beyond-requires c κs = search rules
+is_beyond-requires : tie.Need-is_beyond-requires
+is_beyond-requires c κs = search rules
 
-returns : tie.Need-returns
-returns c = let at = c.before in
-    sym (keep_16 (log_of at) (used_of at) (message_of at) (sym at.is-beyond.ensures ∙ c.if1.true))
+returns-then-is_beyond : tie.Need-returns-then-is_beyond
+returns-then-is_beyond c = let at = c.before in
+    sym (keep_16 (log_of at) (used_of at) (message_of at) (sym at.is_beyond.ensures ∙ c.if-is_beyond.true-raw))
 
-slice-aggregate-is-sound : tie.Need-slice-aggregate-is-sound
-slice-aggregate-is-sound c =
+slice_bounds-is_sound-end : tie.Need-slice_bounds-is_sound-end
+slice_bounds-is_sound-end c =
     let at = c.before.before in
     sym (length-take-le (used_of at) (log_of at) (inside (log_of at) (used_of at) (within c.before)).buffer)
 
-is-sound-requires : tie.Need-is-sound-requires
-is-sound-requires c κs = search rules
+is_sound-requires : tie.Need-is_sound-requires
+is_sound-requires c κs = search rules
 
-returns-2 : tie.Need-returns-2
-returns-2 c =
+returns-then-not-is_sound : tie.Need-returns-then-not-is_sound
+returns-then-not-is_sound c =
     let past = past_1 c.before in
     let at = past.before in
     sym (keep_17 (log_of at) (used_of at) (message_of at) (within past)
-    (sym c.before.is_sound_lem.ensures ∙ not-true _ c.if2.true))
+    (sym c.before.is_sound.ensures ∙ not-true _ c.if-not-is_sound.true-raw))
 
-check-requires : tie.Need-check-requires
-check-requires c κs = search rules
+check-own-requires : tie.Need-check-own-requires
+check-own-requires c κs = search rules
 
-returns-3 : tie.Need-returns-3
-returns-3 c =
+returns-then-own-ne0 : tie.Need-returns-then-own-ne0
+returns-then-own-ne0 c =
     let past = past_2 c.before in
     let one = past_1 past.before in
     let at = one.before in
-    let e = c.before.check.ensures in
-    e ∙ sym (keep_own (log_of at) (used_of at) (message_of at) (within one) (sounds past) (λ z. c.if3.true (e ∙ z)))
+    let e = c.before.check-own.ensures in
+    e ∙ sym (keep_own (log_of at) (used_of at) (message_of at) (within one) (sounds past) (λ z. c.if-own-ne0.true-raw (e ∙ z)))
 
-is-status-requires : tie.Need-is-status-requires
-is-status-requires c κs = search rules
+is_status-requires : tie.Need-is_status-requires
+is_status-requires c κs = search rules
 
-returns-4 : tie.Need-returns-4
-returns-4 c =
+returns-then-not-is_status : tie.Need-returns-then-not-is_status
+returns-then-not-is_status c =
     let three = past_3 c.before in
     let two = past_2 three.before in
     let one = past_1 two.before in
     let at = one.before in
     sym (keep_18 (log_of at) (used_of at) (message_of at) (within one) (sounds two) (passes three)
-    (sym c.before.is-status.ensures ∙ not-true _ c.if4.true))
+    (sym c.before.is_status.ensures ∙ not-true _ c.if-not-is_status.true-raw))
 
 -- a good message is short, and the place is low
-low : (c : tie.Else4) → let at = (past_1 (past_2 (past_3 c.before).before).before).before in
+low : (c : tie.Else-not-is_status) → let at = (past_1 (past_2 (past_3 c.before).before).before).before in
     (used_of at ≤ 65536) × (length (message_of at) ≤ 18)
 low c =
     let three = past_3 c.before in
@@ -98,17 +98,17 @@ low c =
     let at = one.before in
     ((inside (log_of at) (used_of at) (within one)).most, good_few (message_of at) (passes three))
 
-add-end : tie.Need-overflow-add-end
-add-end c = let h = low c in omega (arith, h.0, h.1)
+overflow_add-end : tie.Need-overflow_add-end
+overflow_add-end c = let h = low c in omega (arith, h.0, h.1)
 
-add-end-2 : tie.Need-overflow-add-end-2
-add-end-2 c = let h = low c in omega (arith, h.0, h.1)
+overflow_add-end-2 : tie.Need-overflow_add-end-2
+overflow_add-end-2 c = let h = low c in omega (arith, h.0, h.1)
 
-is-beyond-requires-2 : tie.Need-is-beyond-requires-2
-is-beyond-requires-2 c κs = search rules
+is_beyond-requires-2 : tie.Need-is_beyond-requires-2
+is_beyond-requires-2 c κs = search rules
 
 -- what is said last, by whether the record goes beyond
-last : (c : tie.After-is-beyond2) {t : Bool} → c.is-beyond2.result ≡ t
+last : (c : tie.After-is_beyond-2) {t : Bool} → c.is_beyond-2.result ≡ t
     → let at = (past_1 (past_2 (past_3 c.before.before).before).before).before in
     keep_refusal (log_of at) (used_of at) (message_of at) ≡ cond t 9 0
 last c {t} e =
@@ -120,30 +120,30 @@ last c {t} e =
     let m = message_of at in
     let end : used_of at + length (record_of m) ≡ used_of at + length m + 1 = rw length-append (omega arith) in
     keep_else (log_of at) (used_of at) m (within one) (sounds two) (passes three)
-    (sym four.before.is-status.ensures ∙ not-false _ four.if4.false)
-    ∙ ap (λ (u : Bool). cond u 9 0) (ap (beyond (log_of at)) end ∙ sym c.is-beyond2.ensures ∙ e)
+    (sym four.before.is_status.ensures ∙ not-false _ four.if-not-is_status.false-raw)
+    ∙ ap (λ (u : Bool). cond u 9 0) (ap (beyond (log_of at)) end ∙ sym c.is_beyond-2.ensures ∙ e)
 
-returns-5 : tie.Need-returns-5
-returns-5 c = sym (last c.before c.if5.true)
+returns-then-is_beyond-2 : tie.Need-returns-then-is_beyond-2
+returns-then-is_beyond-2 c = sym (last c.before c.if-is_beyond-2.true-raw)
 
-returns-6 : tie.Need-returns-6
-returns-6 c = sym (last c.before c.if5.false)
+returns-else-is_beyond-2 : tie.Need-returns-else-is_beyond-2
+returns-else-is_beyond-2 c = sym (last c.before c.if-is_beyond-2.false-raw)
 
 pub keep_refusal_spec : {M : Type 1} → statement M
 keep_refusal_spec =
     tie.close
     (tie.spec
-    is-beyond-requires
-    returns
-    slice-aggregate-is-sound
-    is-sound-requires
-    returns-2
-    check-requires
-    returns-3
-    is-status-requires
-    returns-4
-    add-end
-    add-end-2
-    is-beyond-requires-2
-    returns-5
-    returns-6)
+    is_beyond-requires
+    returns-then-is_beyond
+    slice_bounds-is_sound-end
+    is_sound-requires
+    returns-then-not-is_sound
+    check-own-requires
+    returns-then-own-ne0
+    is_status-requires
+    returns-then-not-is_status
+    overflow_add-end
+    overflow_add-end-2
+    is_beyond-requires-2
+    returns-then-is_beyond-2
+    returns-else-is_beyond-2)

@@ -11,39 +11,39 @@ use Rattle.station_log.proofs.newest.Statement.{statement}
 use Rattle.station_log.proofs.newest.Tie as tie
 
 -- the part that is told
-part : (c : tie.After-find)
-    → let a = c.before.before.args in Handed a.log.now a.used a.zone c.find.result
+part : (c : tie.After-find-found)
+    → let a = c.before.before.args in Handed a.log.now a.used a.zone c.find-found.result-1
 part c =
     let a = c.before.before.args in
-    subst (Handed a.log.now a.used a.zone) (sym c.find.ensures) (handed a.log.now a.used a.zone)
+    subst (Handed a.log.now a.used a.zone) (sym c.find-found.ensures) (handed a.log.now a.used a.zone)
 
-find-requires : tie.Need-find-requires
-find-requires c κs = search rules
+find-found-requires : tie.Need-find-found-requires
+find-found-requires c κs = search rules
 
-add-end : tie.Need-overflow-add-end
-add-end c = let h = (part c.before).within in omega arith
+overflow_add-end : tie.Need-overflow_add-end
+overflow_add-end c = let h = (part c.before).within in omega arith
 
-sub-result : tie.Need-overflow-sub-result
-sub-result c = search rules
+slice_bounds-result-count : tie.Need-slice_bounds-result-count
+slice_bounds-result-count c = search rules
 
-part-result-start : tie.Need-slice-bounds-result-start
-part-result-start c = search rules
+slice_bounds-result-start : tie.Need-slice_bounds-result-start
+slice_bounds-result-start c = search rules
 
-part-result-end : tie.Need-slice-bounds-result-end
-part-result-end c = let h = (part c.before).within in omega arith
+slice_bounds-result-end : tie.Need-slice_bounds-result-end
+slice_bounds-result-end c = let h = (part c.before).within in omega arith
 
 returns : tie.Need-returns
 unfolding found_of
 returns c =
     let call = c.before.before in
-    let f = call.find.result in
+    let f = call.find-found.result-1 in
     let log = call.before.before.args.log.now in
     let size : f.at + f.length - f.at ≡ f.length = omega arith in
     record {
-      says = ap (λ (x : Found). x.number) call.find.ensures;
+      says = ap (λ (x : Found). x.number) call.find-found.ensures;
       gives = ap (λ (n : ℕ). take n (drop f.at log)) size ∙ (part call).part;
     }
 
 pub newest_spec : {M : Type 1} → statement M
 newest_spec =
-    tie.close (tie.spec find-requires add-end sub-result part-result-start part-result-end returns)
+    tie.close (tie.spec find-found-requires overflow_add-end slice_bounds-result-count slice_bounds-result-start slice_bounds-result-end returns)

@@ -7,8 +7,8 @@ use Rattle.standard.proofs.Put.{copied_from, put_one, put_then, put_laid}
 use Rattle.station_log.proofs.put.Statement.{statement}
 use Rattle.station_log.proofs.put.Tie as tie
 
-add-last : tie.Need-overflow-add-last
-add-last c = search rules
+overflow_add-last : tie.Need-overflow_add-last
+overflow_add-last c = search rules
 
 sub-copy : tie.Need-overflow-sub-copy
 sub-copy c = search rules
@@ -22,21 +22,21 @@ part-copy-end c = search rules
 copy-requires : tie.Need-copy-requires
 copy-requires c κs = search rules
 
-cast-log : tie.Need-overflow-cast-log
-cast-log c = search rules
+overflow_cast-log : tie.Need-overflow_cast-log
+overflow_cast-log c = search rules
 
-slice-write-log : tie.Need-slice-write-log
-slice-write-log c = search rules
+bounds-log-last : tie.Need-bounds-log-last
+bounds-log-last c = search rules
 
-same_length : tie.Need-same-length
-same_length c = search rules
+shape_of-log : tie.Need-shape_of-log
+shape_of-log c = search rules
 
 returns : tie.Need-returns
 returns c =
     let copy = c.before.before in
     let a = copy.before.before.before.before.args in
     let fit = copy.before.before.before.before.requires.1 in
-    let log = a.log.now in
+    let log = a.log-1.now in
     let m = a.message.now in
     let copied = copied_from a.place m log (omega arith) copy.copy.ensures.1 in
     put_laid (put_then copied (put_one _ (a.place + length m) (length m))) (rw length-append (omega arith))
@@ -45,12 +45,12 @@ pub put_spec : {M : Type 1} → statement M
 put_spec =
     tie.close
     (tie.spec
-    add-last
+    overflow_add-last
     sub-copy
     part-copy-start
     part-copy-end
     copy-requires
-    cast-log
-    slice-write-log
-    same_length
+    overflow_cast-log
+    bounds-log-last
+    shape_of-log
     returns)

@@ -15,15 +15,15 @@ use Rattle.standard.specs.Questions.{table_refusal}
 use Rattle.standard.proofs.Messages.{both_true}
 use Rattle.standard.proofs.Applied.{refusal_after, taken_says, applied_refusal}
 use Rattle.standard.proofs.Stored.{taken}
-use Rattle.table.proofs.apply.Statement.{statement}
-use Rattle.table.proofs.apply.Tie as tie
+use Rattle.table-1.proofs.apply.Statement.{statement}
+use Rattle.table-1.proofs.apply.Tie as tie
 
 -- what was handed in, from the place where the message is stored
 abbrev start : tie.After-stores → tie.Start
 start c = c.before.before.before.before.before
 
 abbrev table_of : tie.After-stores → List ℕ
-table_of c = (start c).args.table.now
+table_of c = (start c).args.table-1.now
 
 abbrev message_of : tie.After-stores → List ℕ
 message_of c = (start c).args.message.now
@@ -37,41 +37,41 @@ not_refused t m h =
     let b = both_true (is_table t) (is_status m) h in
     taken_says (taken t m (eqb-true (length t) table_bytes b.0) b.1)
 
-slice-aggregate-stores : tie.Need-slice-aggregate-stores
-slice-aggregate-stores c =
+slice_bounds-stores-end : tie.Need-slice_bounds-stores-end
+slice_bounds-stores-end c =
     let call = c.before.before.before.before in ap length (sym (take-length call.args.message.now))
 
 stores-requires : tie.Need-stores-requires
 stores-requires c κs = search rules
 
-same_length : tie.Need-same-length
-same_length c = search rules
+shape_of-table-then-stores : tie.Need-shape_of-table-then-stores
+shape_of-table-then-stores c = search rules
 
-returns : tie.Need-returns
-returns c = let at = c.before.before.before in
+returns-then-stores : tie.Need-returns-then-stores
+returns-then-stores c = let at = c.before.before.before in
     let stored =
     sym (at.stores.ensures.0 ∙ ap (λ m. is_table (table_of at) && is_status m) (take-length (message_of at)))
-    ∙ c.if1.true in
+    ∙ c.if-stores.true in
     record { says = sym (not_refused (table_of at) (message_of at) stored); leaves = left at }
 
 refusal-requires : tie.Need-refusal-requires
 refusal-requires c κs = search rules
 
-slice-aggregate-check : tie.Need-slice-aggregate-check
-slice-aggregate-check c =
+slice_bounds-check-end : tie.Need-slice_bounds-check-end
+slice_bounds-check-end c =
     let at = c.before.before.before.before.before.before in ap length (sym (take-length (message_of at)))
 
 check-requires : tie.Need-check-requires
 check-requires c κs = search rules
 
-first-of-requires : tie.Need-first-of-requires
-first-of-requires c κs = search rules
+first_of-requires : tie.Need-first_of-requires
+first_of-requires c κs = search rules
 
-same-length-2 : tie.Need-same-length-2
-same-length-2 c = search rules
+shape_of-table : tie.Need-shape_of-table
+shape_of-table c = search rules
 
-returns-2 : tie.Need-returns-2
-returns-2 c = let check = c.before in
+returns : tie.Need-returns
+returns c = let check = c.before in
     let refusal = check.before.before in
     let at = refusal.before.before.before.before.before in
     let t = table_of at in
@@ -88,13 +88,13 @@ pub apply_spec : {M : Type 1} → statement M
 apply_spec =
     tie.close
     (tie.spec
-    slice-aggregate-stores
+    slice_bounds-stores-end
     stores-requires
-    same_length
-    returns
+    shape_of-table-then-stores
+    returns-then-stores
     refusal-requires
-    slice-aggregate-check
+    slice_bounds-check-end
     check-requires
-    first-of-requires
-    same-length-2
-    returns-2)
+    first_of-requires
+    shape_of-table
+    returns)

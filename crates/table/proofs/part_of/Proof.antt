@@ -8,38 +8,38 @@ use borrow.Author.Tests.{eq-eqb, ne_eqb}
 use Rattle.table.proofs.part_of.Statement.{statement}
 use Rattle.table.proofs.part_of.Tie as tie
 
-slice-aggregate-result : tie.Need-slice-aggregate-result
-slice-aggregate-result c = search rules
+slice_bounds-result-end : tie.Need-slice_bounds-result-end
+slice_bounds-result-end c = search rules
+
+returns-then-number-ne0 : tie.Need-returns-then-number-ne0
+returns-then-number-ne0 c = rw (ne_eqb c.before.before.args.number 0 c.before.if-number-ne0.true)
+
+overflow_add-end : tie.Need-overflow_add-end
+overflow_add-end c = let h = c.before.requires c.if-number-ne0.false in omega arith
+
+slice_bounds-result-count : tie.Need-slice_bounds-result-count
+slice_bounds-result-count c = search rules
+
+slice_bounds-result-start : tie.Need-slice_bounds-result-start
+slice_bounds-result-start c = search rules
+
+slice_bounds-result-end-2 : tie.Need-slice_bounds-result-end-2
+slice_bounds-result-end-2 c = let h = c.before.requires c.if-number-ne0.false in omega arith
 
 returns : tie.Need-returns
-returns c = rw (ne_eqb c.before.before.args.number 0 c.before.if1.true)
-
-add-end : tie.Need-overflow-add-end
-add-end c = let h = c.before.requires c.if1.false in omega arith
-
-sub-result : tie.Need-overflow-sub-result
-sub-result c = search rules
-
-part-result-start : tie.Need-slice-bounds-result-start
-part-result-start c = search rules
-
-part-result-end : tie.Need-slice-bounds-result-end
-part-result-end c = let h = c.before.requires c.if1.false in omega arith
-
-returns-2 : tie.Need-returns-2
-returns-2 c =
+returns c =
     let a = c.before.before.args in
     let e : a.place + a.bytes - a.place ≡ a.bytes = omega arith in
-    rw (eq-eqb a.number 0 c.before.if1.false) (ap (λ (n : ℕ). take n (drop a.place a.table.now)) e)
+    rw (eq-eqb a.number 0 c.before.if-number-ne0.false) (ap (λ (n : ℕ). take n (drop a.place a.table.now)) e)
 
 pub part_of_spec : {M : Type 1} → statement M
 part_of_spec =
     tie.close
     (tie.spec
-    slice-aggregate-result
-    returns
-    add-end
-    sub-result
-    part-result-start
-    part-result-end
-    returns-2)
+    slice_bounds-result-end
+    returns-then-number-ne0
+    overflow_add-end
+    slice_bounds-result-count
+    slice_bounds-result-start
+    slice_bounds-result-end-2
+    returns)

@@ -12,8 +12,8 @@ use Rattle.standard.specs.Words.{byte}
 use Rattle.standard.specs.Table.{table_bytes, partition_place, partition_writes, done_all}
 use Rattle.standard.proofs.Put.{copied_from, listed, part_listed}
 use Rattle.standard.proofs.Table.{record_stored}
-use Rattle.table.proofs.put_partition.Statement.{statement}
-use Rattle.table.proofs.put_partition.Tie as tie
+use Rattle.table-1.proofs.put_partition.Statement.{statement}
+use Rattle.table-1.proofs.put_partition.Tie as tie
 
 stored : (t m : List ℕ) {p : ℕ} → length m ≡ 9 → p ≡ partition_place (byte 2 m)
     → sets t p (bit_or (get_or t p 0) 2 ∷ listed 7 2 m) ≡ done_all (partition_writes m) t
@@ -24,48 +24,48 @@ stored t m h e =
     ∙ record_stored (partition_place (byte 2 m)) 2 (take 7 (drop 2 m)) t
 
 -- the places of the code that speak of what was handed in and of the partition's place
-abbrev placed : tie.After-fields → tie.After-partition-place
+abbrev placed : tie.After-fields-1 → tie.After-partition_place-place
 placed c = c.before.before.before.before.before.before.before.before.before
 
-abbrev start : tie.After-partition-place → tie.Start
+abbrev start : tie.After-partition_place-place → tie.Start
 start c = c.before.before.before.before
 
 -- the record lies within the table
-fits : (c : tie.After-partition-place) → c.partition-place.result + 8 ≤ table_bytes
-fits c = let e = c.partition-place.ensures in let p = (start c).requires.1.1 in omega arith
+fits : (c : tie.After-partition_place-place) → c.partition_place-place.result + 8 ≤ table_bytes
+fits c = let e = c.partition_place-place.ensures in let p = (start c).requires.1.1 in omega arith
 
-shared-slice-read-partition-place : tie.Need-shared-slice-read-partition-place
-shared-slice-read-partition-place c = search rules
+bounds-message-1 : tie.Need-bounds-message-1
+bounds-message-1 c = search rules
 
-cast-partition-place : tie.Need-overflow-cast-partition-place
-cast-partition-place c = search rules
+overflow_cast-message : tie.Need-overflow_cast-message
+overflow_cast-message c = search rules
 
-partition-place-requires : tie.Need-partition-place-requires
-partition-place-requires c κs = search rules
+partition_place-place-requires : tie.Need-partition_place-place-requires
+partition_place-place-requires c κs = search rules
 
-slice-read-t6 : tie.Need-slice-read-t6
-slice-read-t6 c = search rules
+bounds-table-place : tie.Need-bounds-table-place
+bounds-table-place c = search rules
 
-shared-slice-read-t11 : tie.Need-shared-slice-read-t11
-shared-slice-read-t11 c = search rules
+bounds-message-2 : tie.Need-bounds-message-2
+bounds-message-2 c = search rules
 
-shared-slice-read-t13 : tie.Need-shared-slice-read-t13
-shared-slice-read-t13 c = search rules
+bounds-message-3 : tie.Need-bounds-message-3
+bounds-message-3 c = search rules
 
-shared-slice-read-t15 : tie.Need-shared-slice-read-t15
-shared-slice-read-t15 c = search rules
+bounds-message-4 : tie.Need-bounds-message-4
+bounds-message-4 c = search rules
 
-shared-slice-read-t17 : tie.Need-shared-slice-read-t17
-shared-slice-read-t17 c = search rules
+bounds-message-5 : tie.Need-bounds-message-5
+bounds-message-5 c = search rules
 
-shared-slice-read-t19 : tie.Need-shared-slice-read-t19
-shared-slice-read-t19 c = search rules
+bounds-message-6 : tie.Need-bounds-message-6
+bounds-message-6 c = search rules
 
-shared-slice-read-t21 : tie.Need-shared-slice-read-t21
-shared-slice-read-t21 c = search rules
+bounds-message-7 : tie.Need-bounds-message-7
+bounds-message-7 c = search rules
 
-shared-slice-read-t23 : tie.Need-shared-slice-read-t23
-shared-slice-read-t23 c = search rules
+bounds-message-8 : tie.Need-bounds-message-8
+bounds-message-8 c = search rules
 
 slice-aggregate-copy : tie.Need-slice-aggregate-copy
 slice-aggregate-copy c = search rules
@@ -82,40 +82,40 @@ part-copy-end c = search rules
 copy-requires : tie.Need-copy-requires
 copy-requires c κs = search rules
 
-same_length : tie.Need-same-length
-same_length c = search rules
+shape_of-table : tie.Need-shape_of-table
+shape_of-table c = search rules
 
 returns : tie.Need-returns
 returns c = let copy = c.before.before in
     let at = placed copy.before.before in
     let s = start at in
-    let t = s.args.table.now in
+    let t = s.args.table-1.now in
     let m = s.args.message.now in
-    let p = at.partition-place.result in
+    let p = at.partition_place-place.result in
     let h = fits at in
     let w = s.pre.0 in
     (copied_from p (bit_or (get_or t p 0) 2 ∷ listed 7 2 m) t (omega arith) copy.copy.ensures.1).bytes
-    ∙ stored t m s.pre.1.0 at.partition-place.ensures
+    ∙ stored t m s.pre.1.0 at.partition_place-place.ensures
 
 pub put_partition_spec : {M : Type 1} → statement M
 put_partition_spec =
     tie.close
     (tie.spec
-    shared-slice-read-partition-place
-    cast-partition-place
-    partition-place-requires
-    slice-read-t6
-    shared-slice-read-t11
-    shared-slice-read-t13
-    shared-slice-read-t15
-    shared-slice-read-t17
-    shared-slice-read-t19
-    shared-slice-read-t21
-    shared-slice-read-t23
+    bounds-message-1
+    overflow_cast-message
+    partition_place-place-requires
+    bounds-table-place
+    bounds-message-2
+    bounds-message-3
+    bounds-message-4
+    bounds-message-5
+    bounds-message-6
+    bounds-message-7
+    bounds-message-8
     slice-aggregate-copy
     sub-copy
     part-copy-start
     part-copy-end
     copy-requires
-    same_length
+    shape_of-table
     returns)

@@ -11,87 +11,87 @@ use Rattle.standard.proofs.Table.{heard_more}
 use Rattle.table.proofs.put_partitions.Statement.{statement}
 use Rattle.table.proofs.put_partitions.Tie as tie
 
-abbrev invariant-loop : tie.invariant-loop
-invariant-loop table₀ message p₀ table p =
+abbrev invariant-loop-p : tie.invariant-loop-p
+invariant-loop-p table₀ message p₀ table p =
     (table ≡ done_all (flat_map (partition_short message) (up_to p)) table₀) × (p ≤ 8) × (length table ≡ table_bytes)
 
-abbrev decreases-loop : tie.decreases-loop
-decreases-loop table₀ message p₀ table p = 8 - p
+abbrev decreases-loop-p : tie.decreases-loop-p
+decreases-loop-p table₀ message p₀ table p = 8 - p
 
 -- the call, from a turn
-abbrev call : tie.At-loop invariant-loop decreases-loop → tie.Start invariant-loop decreases-loop
+abbrev call : tie.At-loop-p invariant-loop-p decreases-loop-p → tie.Start invariant-loop-p decreases-loop-p
 call c = c.before.before.before
 
-loop-holds : tie.Need-loop-init invariant-loop decreases-loop
+loop-p-init : tie.Need-loop-p-init invariant-loop-p decreases-loop-p
 unfolding flat_map up_to done_all
-loop-holds c = (refl, omega arith, omega arith)
+loop-p-init c = (refl, omega arith, omega arith)
 
-partition-place-requires : tie.Need-partition-place-requires invariant-loop decreases-loop
-partition-place-requires c κs = omega arith
+partition_place-place-requires : tie.Need-partition_place-place-requires invariant-loop-p decreases-loop-p
+partition_place-place-requires c κs = omega arith
 
-slice-read-table : tie.Need-slice-read-table invariant-loop decreases-loop
-slice-read-table c = omega arith
+bounds-table-place : tie.Need-bounds-table-place invariant-loop-p decreases-loop-p
+bounds-table-place c = omega arith
 
-slice-write-table : tie.Need-slice-write-table invariant-loop decreases-loop
-slice-write-table c = omega arith
+bounds-table-place-in-loop-p : tie.Need-bounds-table-place-in-loop-p invariant-loop-p decreases-loop-p
+bounds-table-place-in-loop-p c = omega arith
 
-add-table : tie.Need-overflow-add-table invariant-loop decreases-loop
-add-table c = omega arith
+overflow_add-table : tie.Need-overflow_add-table invariant-loop-p decreases-loop-p
+overflow_add-table c = omega arith
 
-shared-slice-read-table : tie.Need-shared-slice-read-table invariant-loop decreases-loop
-shared-slice-read-table c = omega arith
+bounds-message-p : tie.Need-bounds-message-p invariant-loop-p decreases-loop-p
+bounds-message-p c = omega arith
 
-add-table-2 : tie.Need-overflow-add-table-2 invariant-loop decreases-loop
-add-table-2 c = omega arith
+overflow_add-table-in-loop-p : tie.Need-overflow_add-table-in-loop-p invariant-loop-p decreases-loop-p
+overflow_add-table-in-loop-p c = omega arith
 
-slice-write-table-2 : tie.Need-slice-write-table-2 invariant-loop decreases-loop
-slice-write-table-2 c = simp length-set (omega arith)
+bounds-table-place-in-loop-p-2 : tie.Need-bounds-table-place-in-loop-p-2 invariant-loop-p decreases-loop-p
+bounds-table-place-in-loop-p-2 c = simp length-set (omega arith)
 
-add-p : tie.Need-overflow-add-p invariant-loop decreases-loop
-add-p c = omega arith
+overflow_add-p : tie.Need-overflow_add-p invariant-loop-p decreases-loop-p
+overflow_add-p c = omega arith
 
-loop-less : tie.Need-loop-smaller invariant-loop decreases-loop
-loop-less c = omega arith
+loop-p-smaller : tie.Need-loop-p-smaller invariant-loop-p decreases-loop-p
+loop-p-smaller c = omega arith
 
-loop-again : tie.Need-loop-preserved invariant-loop decreases-loop
-loop-again c =
+loop-p-preserved : tie.Need-loop-p-preserved invariant-loop-p decreases-loop-p
+loop-p-preserved c =
     let at = c.before.before.before.before in
     let a = (call at).args in
     let m = a.message.now in
-    let p = at.loop.p in
+    let p = at.loop-p.p in
     let e : 1 + p ≡ 2 + p - 1 = omega arith in (
-      heard_more partition_place 8 (λ q. byte (2 + q) m) p a.table.now at.loop.invariant.0
-          c.before.before.partition-place.ensures (ap (λ i. get_or m i 0) e),
+      heard_more partition_place 8 (λ q. byte (2 + q) m) p a.table.now at.loop-p.invariant.0
+          c.before.before.partition_place-place.ensures (ap (λ i. get_or m i 0) e),
       omega arith,
-      simp length-set at.loop.invariant.2,
+      simp length-set at.loop-p.invariant.2,
     )
 
-same_length : tie.Need-same-length invariant-loop decreases-loop
-same_length c = omega arith
+shape_of-table : tie.Need-shape_of-table invariant-loop-p decreases-loop-p
+shape_of-table c = omega arith
 
-returns : tie.Need-returns invariant-loop decreases-loop
+returns : tie.Need-returns invariant-loop-p decreases-loop-p
 returns c =
     let at = c.before in
     let a = (call at).args in
-    let e : at.loop.p ≡ 8 = omega arith in
-    at.loop.invariant.0 ∙ ap (λ n. done_all (flat_map (partition_short a.message.now) (up_to n)) a.table.now) e
+    let e : at.loop-p.p ≡ 8 = omega arith in
+    at.loop-p.invariant.0 ∙ ap (λ n. done_all (flat_map (partition_short a.message.now) (up_to n)) a.table.now) e
 
 pub put_partitions_spec : {M : Type 1} → statement M
 put_partitions_spec =
     tie.close
     (tie.spec
-    invariant-loop
-    decreases-loop
-    loop-holds
-    partition-place-requires
-    slice-read-table
-    slice-write-table
-    add-table
-    shared-slice-read-table
-    add-table-2
-    slice-write-table-2
-    add-p
-    loop-less
-    loop-again
-    same_length
+    invariant-loop-p
+    decreases-loop-p
+    loop-p-init
+    partition_place-place-requires
+    bounds-table-place
+    bounds-table-place-in-loop-p
+    overflow_add-table
+    bounds-message-p
+    overflow_add-table-in-loop-p
+    bounds-table-place-in-loop-p-2
+    overflow_add-p
+    loop-p-smaller
+    loop-p-preserved
+    shape_of-table
     returns)

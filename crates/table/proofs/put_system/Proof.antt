@@ -9,8 +9,8 @@ use borrow.Author.Rules.{rules}
 use Rattle.standard.specs.Table.{system_place, system_writes, done_all}
 use Rattle.standard.proofs.Put.{copied_from, listed, part_listed}
 use Rattle.standard.proofs.Table.{done_all_run}
-use Rattle.table.proofs.put_system.Statement.{statement}
-use Rattle.table.proofs.put_system.Tie as tie
+use Rattle.table-1.proofs.put_system.Statement.{statement}
+use Rattle.table-1.proofs.put_system.Tie as tie
 
 stored : (t m : List ℕ) → length m ≡ 12 → sets t system_place (1 ∷ listed 11 1 m) ≡ done_all (system_writes m) t
 stored t m h =
@@ -18,42 +18,42 @@ stored t m h =
     ∙ sym (done_all_run system_place (1 ∷ take 11 (drop 1 m)) t)
 
 -- what was handed in, from the place where the record is made
-abbrev start : tie.After-fields → tie.Start
+abbrev start : tie.After-fields-1 → tie.Start
 start c =
     c.before.before.before.before.before.before.before.before.before.before.before.before.before.before
 
-shared-slice-read-t5 : tie.Need-shared-slice-read-t5
-shared-slice-read-t5 c = search rules
+bounds-message-1 : tie.Need-bounds-message-1
+bounds-message-1 c = search rules
 
-shared-slice-read-t7 : tie.Need-shared-slice-read-t7
-shared-slice-read-t7 c = search rules
+bounds-message-2 : tie.Need-bounds-message-2
+bounds-message-2 c = search rules
 
-shared-slice-read-t9 : tie.Need-shared-slice-read-t9
-shared-slice-read-t9 c = search rules
+bounds-message-3 : tie.Need-bounds-message-3
+bounds-message-3 c = search rules
 
-shared-slice-read-t11 : tie.Need-shared-slice-read-t11
-shared-slice-read-t11 c = search rules
+bounds-message-4 : tie.Need-bounds-message-4
+bounds-message-4 c = search rules
 
-shared-slice-read-t13 : tie.Need-shared-slice-read-t13
-shared-slice-read-t13 c = search rules
+bounds-message-5 : tie.Need-bounds-message-5
+bounds-message-5 c = search rules
 
-shared-slice-read-t15 : tie.Need-shared-slice-read-t15
-shared-slice-read-t15 c = search rules
+bounds-message-6 : tie.Need-bounds-message-6
+bounds-message-6 c = search rules
 
-shared-slice-read-t17 : tie.Need-shared-slice-read-t17
-shared-slice-read-t17 c = search rules
+bounds-message-7 : tie.Need-bounds-message-7
+bounds-message-7 c = search rules
 
-shared-slice-read-t19 : tie.Need-shared-slice-read-t19
-shared-slice-read-t19 c = search rules
+bounds-message-8 : tie.Need-bounds-message-8
+bounds-message-8 c = search rules
 
-shared-slice-read-t21 : tie.Need-shared-slice-read-t21
-shared-slice-read-t21 c = search rules
+bounds-message-9 : tie.Need-bounds-message-9
+bounds-message-9 c = search rules
 
-shared-slice-read-t23 : tie.Need-shared-slice-read-t23
-shared-slice-read-t23 c = search rules
+bounds-message-10 : tie.Need-bounds-message-10
+bounds-message-10 c = search rules
 
-shared-slice-read-t25 : tie.Need-shared-slice-read-t25
-shared-slice-read-t25 c = search rules
+bounds-message-11 : tie.Need-bounds-message-11
+bounds-message-11 c = search rules
 
 slice-aggregate-copy : tie.Need-slice-aggregate-copy
 slice-aggregate-copy c = search rules
@@ -70,13 +70,13 @@ part-copy-end c = search rules
 copy-requires : tie.Need-copy-requires
 copy-requires c κs = search rules
 
-same_length : tie.Need-same-length
-same_length c = search rules
+shape_of-table : tie.Need-shape_of-table
+shape_of-table c = search rules
 
 returns : tie.Need-returns
 returns c = let copy = c.before.before in
     let s = start copy.before.before in
-    let t = s.args.table.now in
+    let t = s.args.table-1.now in
     let m = s.args.message.now in
     let w = s.pre.0 in
     (copied_from system_place (1 ∷ listed 11 1 m) t (omega arith) copy.copy.ensures.1).bytes ∙ stored t m s.pre.1
@@ -85,21 +85,21 @@ pub put_system_spec : {M : Type 1} → statement M
 put_system_spec =
     tie.close
     (tie.spec
-    shared-slice-read-t5
-    shared-slice-read-t7
-    shared-slice-read-t9
-    shared-slice-read-t11
-    shared-slice-read-t13
-    shared-slice-read-t15
-    shared-slice-read-t17
-    shared-slice-read-t19
-    shared-slice-read-t21
-    shared-slice-read-t23
-    shared-slice-read-t25
+    bounds-message-1
+    bounds-message-2
+    bounds-message-3
+    bounds-message-4
+    bounds-message-5
+    bounds-message-6
+    bounds-message-7
+    bounds-message-8
+    bounds-message-9
+    bounds-message-10
+    bounds-message-11
     slice-aggregate-copy
     sub-copy
     part-copy-start
     part-copy-end
     copy-requires
-    same_length
+    shape_of-table
     returns)

@@ -12,8 +12,8 @@ use Rattle.standard.specs.Table.{table_bytes, zone_place, short_from, zone_write
 use Rattle.standard.proofs.Put.{copied_from}
 use Rattle.standard.proofs.Table.{record_stored}
 use Rattle.standard.proofs.Applied.{zone_run}
-use Rattle.table.proofs.put_zone.Statement.{statement}
-use Rattle.table.proofs.put_zone.Tie as tie
+use Rattle.table-1.proofs.put_zone.Statement.{statement}
+use Rattle.table-1.proofs.put_zone.Tie as tie
 
 -- the record, at a place and with short flags
 abbrev fields : List ℕ → List ℕ → ℕ → ℕ → List ℕ
@@ -26,57 +26,57 @@ stored t m e f =
     ∙ record_stored (zone_place (byte 2 m)) 3 (zone_run m) t
 
 -- the places of the code that speak of what was handed in and of the zone's place
-abbrev placed : tie.After-short-from → tie.After-zone-place
+abbrev placed : tie.After-short_from-short → tie.After-zone_place-place
 placed c = c.before.before.before
 
-abbrev made : tie.After-fields → tie.After-short-from
+abbrev made : tie.After-fields-1 → tie.After-short_from-short
 made c = c.before.before.before.before.before.before.before.before
 
-abbrev start : tie.After-zone-place → tie.Start
+abbrev start : tie.After-zone_place-place → tie.Start
 start c = c.before.before.before.before
 
 -- the record lies within the table
-fits : (c : tie.After-zone-place) → c.zone-place.result + 8 ≤ table_bytes
-fits c = let e = c.zone-place.ensures in omega (arith, c.before.shared-slice-known2.given 1)
+fits : (c : tie.After-zone_place-place) → c.zone_place-place.result + 8 ≤ table_bytes
+fits c = let e = c.zone_place-place.ensures in omega (arith, c.before.shared_slice_known-2-1.given 1)
 
-shared-slice-read-zone-place : tie.Need-shared-slice-read-zone-place
-shared-slice-read-zone-place c = search rules
+bounds-message-1 : tie.Need-bounds-message-1
+bounds-message-1 c = search rules
 
-cast-zone-place : tie.Need-overflow-cast-zone-place
-cast-zone-place c = omega (arith, c.shared-slice-known2.given 1)
+overflow_cast-message : tie.Need-overflow_cast-message
+overflow_cast-message c = omega (arith, c.shared_slice_known-2-1.given 1)
 
-zone-place-requires : tie.Need-zone-place-requires
-zone-place-requires c κs = omega (arith, c.shared-slice-known2.given 1)
+zone_place-place-requires : tie.Need-zone_place-place-requires
+zone_place-place-requires c κs = omega (arith, c.shared_slice_known-2-1.given 1)
 
-shared-slice-read-short-from : tie.Need-shared-slice-read-short-from
-shared-slice-read-short-from c = search rules
+bounds-message-6 : tie.Need-bounds-message-6
+bounds-message-6 c = search rules
 
-shared-slice-read-short-from-2 : tie.Need-shared-slice-read-short-from-2
-shared-slice-read-short-from-2 c = search rules
+bounds-message-7 : tie.Need-bounds-message-7
+bounds-message-7 c = search rules
 
-short-from-requires : tie.Need-short-from-requires
-short-from-requires c κs = search rules
+short_from-short-requires : tie.Need-short_from-short-requires
+short_from-short-requires c κs = search rules
 
-slice-read-t7 : tie.Need-slice-read-t7
-slice-read-t7 c = let h = fits (placed c.before) in let w = (start (placed c.before)).requires.0 in omega arith
+bounds-table-place : tie.Need-bounds-table-place
+bounds-table-place c = let h = fits (placed c.before) in let w = (start (placed c.before)).requires.0 in omega arith
 
-shared-slice-read-t14 : tie.Need-shared-slice-read-t14
-shared-slice-read-t14 c = search rules
+bounds-message-2 : tie.Need-bounds-message-2
+bounds-message-2 c = search rules
 
-shared-slice-read-t16 : tie.Need-shared-slice-read-t16
-shared-slice-read-t16 c = search rules
+bounds-message-3 : tie.Need-bounds-message-3
+bounds-message-3 c = search rules
 
-shared-slice-read-t18 : tie.Need-shared-slice-read-t18
-shared-slice-read-t18 c = search rules
+bounds-message-4 : tie.Need-bounds-message-4
+bounds-message-4 c = search rules
 
-shared-slice-read-t20 : tie.Need-shared-slice-read-t20
-shared-slice-read-t20 c = search rules
+bounds-message-5 : tie.Need-bounds-message-5
+bounds-message-5 c = search rules
 
-shared-slice-read-t22 : tie.Need-shared-slice-read-t22
-shared-slice-read-t22 c = search rules
+bounds-message-6-2 : tie.Need-bounds-message-6-2
+bounds-message-6-2 c = search rules
 
-shared-slice-read-t24 : tie.Need-shared-slice-read-t24
-shared-slice-read-t24 c = search rules
+bounds-message-7-2 : tie.Need-bounds-message-7-2
+bounds-message-7-2 c = search rules
 
 slice-aggregate-copy : tie.Need-slice-aggregate-copy
 slice-aggregate-copy c = search rules
@@ -95,42 +95,42 @@ copy-requires c κs = let h = fits (placed (made c.before)) in
     let w = (start (placed (made c.before))).requires.0 in
     simp (length-take, length-drop) (omega arith)
 
-same_length : tie.Need-same-length
-same_length c = search rules
+shape_of-table : tie.Need-shape_of-table
+shape_of-table c = search rules
 
 returns : tie.Need-returns
 returns c = let copy = c.before.before in
     let at = made copy.before.before in
     let s = start (placed at) in
-    let t = s.args.table.now in
+    let t = s.args.table-1.now in
     let m = s.args.message.now in
-    let p = (placed at).zone-place.result in
+    let p = (placed at).zone_place-place.result in
     let h = fits (placed at) in
     let w = s.pre.0 in
-    (copied_from p (fields t m p at.short-from.result) t (omega arith) copy.copy.ensures.1).bytes
-    ∙ stored t m (placed at).zone-place.ensures at.short-from.ensures
+    (copied_from p (fields t m p at.short_from-short.result) t (omega arith) copy.copy.ensures.1).bytes
+    ∙ stored t m (placed at).zone_place-place.ensures at.short_from-short.ensures
 
 pub put_zone_spec : {M : Type 1} → statement M
 put_zone_spec =
     tie.close
     (tie.spec
-    shared-slice-read-zone-place
-    cast-zone-place
-    zone-place-requires
-    shared-slice-read-short-from
-    shared-slice-read-short-from-2
-    short-from-requires
-    slice-read-t7
-    shared-slice-read-t14
-    shared-slice-read-t16
-    shared-slice-read-t18
-    shared-slice-read-t20
-    shared-slice-read-t22
-    shared-slice-read-t24
+    bounds-message-1
+    overflow_cast-message
+    zone_place-place-requires
+    bounds-message-6
+    bounds-message-7
+    short_from-short-requires
+    bounds-table-place
+    bounds-message-2
+    bounds-message-3
+    bounds-message-4
+    bounds-message-5
+    bounds-message-6-2
+    bounds-message-7-2
     slice-aggregate-copy
     sub-copy
     part-copy-start
     part-copy-end
     copy-requires
-    same_length
+    shape_of-table
     returns)

@@ -58,123 +58,123 @@ turn t m now j p e f =
     ∙ one t m half (2 * j + 1) (p + 8) (get_or m (2 + j) 0 / 16) first place (high j m)
     ∙ ap (after t m) twice
 
-abbrev invariant-loop : tie.invariant-loop
-invariant-loop table₀ message first j₀ table j =
+abbrev invariant-loop-j : tie.invariant-loop-j
+invariant-loop-j table₀ message first j₀ table j =
     (table ≡ after table₀ message (2 * j)) × (j ≤ 8) × (length table ≡ table_bytes)
 
-abbrev decreases-loop : tie.decreases-loop
-decreases-loop table₀ message first j₀ table j = 8 - j
+abbrev decreases-loop-j : tie.decreases-loop-j
+decreases-loop-j table₀ message first j₀ table j = 8 - j
 
 -- the call, from a turn
-abbrev call : tie.At-loop invariant-loop decreases-loop → tie.Start invariant-loop decreases-loop
+abbrev call : tie.At-loop-j invariant-loop-j decreases-loop-j → tie.Start invariant-loop-j decreases-loop-j
 call c = c.before.before.before.before
 
-shared-slice-read-first : tie.Need-shared-slice-read-first invariant-loop decreases-loop
-shared-slice-read-first c = omega arith
+bounds-message-1 : tie.Need-bounds-message-1 invariant-loop-j decreases-loop-j
+bounds-message-1 c = omega arith
 
-cast-first : tie.Need-overflow-cast-first invariant-loop decreases-loop
-cast-first c = omega arith
+overflow_cast-first : tie.Need-overflow_cast-first invariant-loop-j decreases-loop-j
+overflow_cast-first c = omega arith
 
-loop-holds : tie.Need-loop-init invariant-loop decreases-loop
+loop-j-init : tie.Need-loop-j-init invariant-loop-j decreases-loop-j
 unfolding flat_map up_to done_all
-loop-holds c = (refl, omega arith, omega arith)
+loop-j-init c = (refl, omega arith, omega arith)
 
-mul-zone-place : tie.Need-overflow-mul-zone-place invariant-loop decreases-loop
-mul-zone-place c = omega arith
+overflow_mul-j : tie.Need-overflow_mul-j invariant-loop-j decreases-loop-j
+overflow_mul-j c = omega arith
 
-add-zone-place : tie.Need-overflow-add-zone-place invariant-loop decreases-loop
-add-zone-place c = omega arith
+overflow_add-first : tie.Need-overflow_add-first invariant-loop-j decreases-loop-j
+overflow_add-first c = omega arith
 
-zone-place-requires : tie.Need-zone-place-requires invariant-loop decreases-loop
-zone-place-requires c κs = omega arith
+zone_place-place-requires : tie.Need-zone_place-place-requires invariant-loop-j decreases-loop-j
+zone_place-place-requires c κs = omega arith
 
-add-both : tie.Need-overflow-add-both invariant-loop decreases-loop
-add-both c = omega arith
+overflow_add-both : tie.Need-overflow_add-both invariant-loop-j decreases-loop-j
+overflow_add-both c = omega arith
 
-shared-slice-read-both : tie.Need-shared-slice-read-both invariant-loop decreases-loop
-shared-slice-read-both c = omega arith
+bounds-message-j : tie.Need-bounds-message-j invariant-loop-j decreases-loop-j
+bounds-message-j c = omega arith
 
-slice-read-table : tie.Need-slice-read-table invariant-loop decreases-loop
-slice-read-table c = omega arith
+bounds-table-place : tie.Need-bounds-table-place invariant-loop-j decreases-loop-j
+bounds-table-place c = omega arith
 
-slice-write-table : tie.Need-slice-write-table invariant-loop decreases-loop
-slice-write-table c = omega arith
+bounds-table-place-in-loop-j : tie.Need-bounds-table-place-in-loop-j invariant-loop-j decreases-loop-j
+bounds-table-place-in-loop-j c = omega arith
 
-add-table : tie.Need-overflow-add-table invariant-loop decreases-loop
-add-table c = omega arith
+overflow_add-table : tie.Need-overflow_add-table invariant-loop-j decreases-loop-j
+overflow_add-table c = omega arith
 
-slice-write-table-2 : tie.Need-slice-write-table-2 invariant-loop decreases-loop
-slice-write-table-2 c = simp length-set (omega arith)
+bounds-table-place-in-loop-j-2 : tie.Need-bounds-table-place-in-loop-j-2 invariant-loop-j decreases-loop-j
+bounds-table-place-in-loop-j-2 c = simp length-set (omega arith)
 
-add-table-2 : tie.Need-overflow-add-table-2 invariant-loop decreases-loop
-add-table-2 c = omega arith
+overflow_add-table-in-loop-j : tie.Need-overflow_add-table-in-loop-j invariant-loop-j decreases-loop-j
+overflow_add-table-in-loop-j c = omega arith
 
-slice-read-table-2 : tie.Need-slice-read-table-2 invariant-loop decreases-loop
-slice-read-table-2 c = simp length-set (omega arith)
+bounds-table-place-in-loop-j-3 : tie.Need-bounds-table-place-in-loop-j-3 invariant-loop-j decreases-loop-j
+bounds-table-place-in-loop-j-3 c = simp length-set (omega arith)
 
-add-table-3 : tie.Need-overflow-add-table-3 invariant-loop decreases-loop
-add-table-3 c = omega arith
+overflow_add-table-in-loop-j-2 : tie.Need-overflow_add-table-in-loop-j-2 invariant-loop-j decreases-loop-j
+overflow_add-table-in-loop-j-2 c = omega arith
 
-slice-write-table-3 : tie.Need-slice-write-table-3 invariant-loop decreases-loop
-slice-write-table-3 c = simp length-set (omega arith)
+bounds-table-place-in-loop-j-4 : tie.Need-bounds-table-place-in-loop-j-4 invariant-loop-j decreases-loop-j
+bounds-table-place-in-loop-j-4 c = simp length-set (omega arith)
 
-add-table-4 : tie.Need-overflow-add-table-4 invariant-loop decreases-loop
-add-table-4 c = omega arith
+overflow_add-table-in-loop-j-3 : tie.Need-overflow_add-table-in-loop-j-3 invariant-loop-j decreases-loop-j
+overflow_add-table-in-loop-j-3 c = omega arith
 
-slice-write-table-4 : tie.Need-slice-write-table-4 invariant-loop decreases-loop
-slice-write-table-4 c = simp length-set (omega arith)
+bounds-table-place-in-loop-j-5 : tie.Need-bounds-table-place-in-loop-j-5 invariant-loop-j decreases-loop-j
+bounds-table-place-in-loop-j-5 c = simp length-set (omega arith)
 
-add-j : tie.Need-overflow-add-j invariant-loop decreases-loop
-add-j c = omega arith
+overflow_add-j : tie.Need-overflow_add-j invariant-loop-j decreases-loop-j
+overflow_add-j c = omega arith
 
-loop-less : tie.Need-loop-smaller invariant-loop decreases-loop
-loop-less c = omega arith
+loop-j-smaller : tie.Need-loop-j-smaller invariant-loop-j decreases-loop-j
+loop-j-smaller c = omega arith
 
-loop-again : tie.Need-loop-preserved invariant-loop decreases-loop
-loop-again c = let placed = c.before.before.before in
+loop-j-preserved : tie.Need-loop-j-preserved invariant-loop-j decreases-loop-j
+loop-j-preserved c = let placed = c.before.before.before in
     let at = placed.before.before in
     let a = (call at).args in (
-      turn a.table.now a.message.now at.loop.table at.loop.j _ at.loop.invariant.0
-          placed.zone-place.ensures,
+      turn a.table.now a.message.now at.loop-j.table at.loop-j.j _ at.loop-j.invariant.0
+          placed.zone_place-place.ensures,
       omega arith,
-      simp length-set at.loop.invariant.2,
+      simp length-set at.loop-j.invariant.2,
     )
 
-same_length : tie.Need-same-length invariant-loop decreases-loop
-same_length c = omega arith
+shape_of-table : tie.Need-shape_of-table invariant-loop-j decreases-loop-j
+shape_of-table c = omega arith
 
-returns : tie.Need-returns invariant-loop decreases-loop
+returns : tie.Need-returns invariant-loop-j decreases-loop-j
 returns c = let at = c.before in
     let a = (call at).args in
-    let e : 2 * at.loop.j ≡ 16 = omega arith in
-    at.loop.invariant.0 ∙ ap (after a.table.now a.message.now) e
+    let e : 2 * at.loop-j.j ≡ 16 = omega arith in
+    at.loop-j.invariant.0 ∙ ap (after a.table.now a.message.now) e
 
 pub put_zones_spec : {M : Type 1} → statement M
 put_zones_spec =
     tie.close
     (tie.spec
-    invariant-loop
-    decreases-loop
-    shared-slice-read-first
-    cast-first
-    loop-holds
-    mul-zone-place
-    add-zone-place
-    zone-place-requires
-    add-both
-    shared-slice-read-both
-    slice-read-table
-    slice-write-table
-    add-table
-    slice-write-table-2
-    add-table-2
-    slice-read-table-2
-    add-table-3
-    slice-write-table-3
-    add-table-4
-    slice-write-table-4
-    add-j
-    loop-less
-    loop-again
-    same_length
+    invariant-loop-j
+    decreases-loop-j
+    bounds-message-1
+    overflow_cast-first
+    loop-j-init
+    overflow_mul-j
+    overflow_add-first
+    zone_place-place-requires
+    overflow_add-both
+    bounds-message-j
+    bounds-table-place
+    bounds-table-place-in-loop-j
+    overflow_add-table
+    bounds-table-place-in-loop-j-2
+    overflow_add-table-in-loop-j
+    bounds-table-place-in-loop-j-3
+    overflow_add-table-in-loop-j-2
+    bounds-table-place-in-loop-j-4
+    overflow_add-table-in-loop-j-3
+    bounds-table-place-in-loop-j-5
+    overflow_add-j
+    loop-j-smaller
+    loop-j-preserved
+    shape_of-table
     returns)

@@ -6,13 +6,13 @@ use Rattle.standard.specs.Questions.{table_refusal}
 use Rattle.table.proofs.refusal.Statement.{statement}
 use Rattle.table.proofs.refusal.Tie as tie
 
-returns : tie.Need-returns
+returns-then-table-eq-TABLE_BYTES : tie.Need-returns-then-table-eq-TABLE_BYTES
 unfolding table_refusal
-returns c = rw (eq-eqb (length c.before.args.table.now) table_bytes c.if1.true)
+returns-then-table-eq-TABLE_BYTES c = rw (eq-eqb (length c.before.args.table.now) table_bytes c.if-table-eq-TABLE_BYTES.true)
 
-returns-2 : tie.Need-returns-2
+returns-else-table-eq-TABLE_BYTES : tie.Need-returns-else-table-eq-TABLE_BYTES
 unfolding table_refusal
-returns-2 c = rw (ne_eqb (length c.before.args.table.now) table_bytes c.if1.false)
+returns-else-table-eq-TABLE_BYTES c = rw (ne_eqb (length c.before.args.table.now) table_bytes c.if-table-eq-TABLE_BYTES.false)
 
 pub refusal_spec : {M : Type 1} → statement M
-refusal_spec = tie.close (tie.spec returns returns-2)
+refusal_spec = tie.close (tie.spec returns-then-table-eq-TABLE_BYTES returns-else-table-eq-TABLE_BYTES)

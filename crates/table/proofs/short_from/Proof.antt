@@ -38,30 +38,30 @@ bypassed c =
     let h : Fits w8 c.before.args.c1 = search rules in
     c.flag.ensures ∙ bypass c.before.args.c1 (omega arith)
 
-troubled : (c : tie.After-flag2)
-    → let b = c.before.before.args.c1 in c.flag2.result
+troubled : (c : tie.After-flag-2)
+    → let b = c.before.before.args.c1 in c.flag-2.result
     ≡ 4 * max (max (bit 1 b) (bit 2 b)) (max (bit 5 b) (bit 6 b))
 troubled c =
     let h : Fits w8 c.before.before.args.c1 = search rules in
-    c.flag2.ensures ∙ trouble c.before.before.args.c1 (omega arith)
+    c.flag-2.ensures ∙ trouble c.before.before.args.c1 (omega arith)
 
 flag-requires : tie.Need-flag-requires
 flag-requires c κs = search rules
 
-add-result : tie.Need-overflow-add-result
-add-result c = let b = bypassed c in omega arith
+overflow_add-result : tie.Need-overflow_add-result
+overflow_add-result c = let b = bypassed c in omega arith
 
 flag-requires-2 : tie.Need-flag-requires-2
 flag-requires-2 c κs = search rules
 
-add-result-2 : tie.Need-overflow-add-result-2
-add-result-2 c = let b = bypassed c.before in let t = troubled c in omega arith
+overflow_add-result-2 : tie.Need-overflow_add-result-2
+overflow_add-result-2 c = let b = bypassed c.before in let t = troubled c in omega arith
 
-mul-result : tie.Need-overflow-mul-result
-mul-result c = search rules
+overflow_mul-result : tie.Need-overflow_mul-result
+overflow_mul-result c = search rules
 
-add-result-3 : tie.Need-overflow-add-result-3
-add-result-3 c = let b = bypassed c.before in let t = troubled c in omega arith
+overflow_add-result-3 : tie.Need-overflow_add-result-3
+overflow_add-result-3 c = let b = bypassed c.before in let t = troubled c in omega arith
 
 returns : tie.Need-returns
 returns c = flags c.before.before.args.c1 c.before.before.args.c2 _ _ (bypassed c.before) (troubled c)
@@ -71,9 +71,9 @@ short_from_spec =
     tie.close
     (tie.spec
     flag-requires
-    add-result
+    overflow_add-result
     flag-requires-2
-    add-result-2
-    mul-result
-    add-result-3
+    overflow_add-result-2
+    overflow_mul-result
+    overflow_add-result-3
     returns)

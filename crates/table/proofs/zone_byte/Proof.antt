@@ -8,35 +8,35 @@ use Rattle.table.proofs.zone_byte.Statement.{statement}
 use Rattle.table.proofs.zone_byte.Tie as tie
 
 -- what the table's own number says, from the read
-abbrev asked : tie.After-shared-slice-known2 → tie.After-refusal
+abbrev asked : tie.After-shared_slice_known-2-1 → tie.After-refusal-number
 asked c = c.before.before.before
 
-refusal-requires : tie.Need-refusal-requires
-refusal-requires c κs = search rules
+refusal-number-requires : tie.Need-refusal-number-requires
+refusal-number-requires c κs = search rules
 
-returns : tie.Need-returns
-returns c = answer_refused c.before.refusal.ensures c.if1.true
+returns-then-number-ne0 : tie.Need-returns-then-number-ne0
+returns-then-number-ne0 c = answer_refused c.before.refusal-number.ensures c.if-number-ne0.true
 
-zone-place-requires : tie.Need-zone-place-requires
-zone-place-requires c κs = search rules
+zone_place-requires : tie.Need-zone_place-requires
+zone_place-requires c κs = search rules
 
-add-place : tie.Need-overflow-add-place
-add-place c = search rules
+overflow_add-place : tie.Need-overflow_add-place
+overflow_add-place c = search rules
 
-shared-slice-read-t10 : tie.Need-shared-slice-read-t10
-shared-slice-read-t10 c =
+bounds-table-place : tie.Need-bounds-table-place
+bounds-table-place c =
     let start = (asked c).before.before in
     let h =
     asked_whole start.args.table.now
-    (sym (asked c).refusal.ensures ∙ c.before.before.if1.false) in
+    (sym (asked c).refusal-number.ensures ∙ c.before.before.if-number-ne0.false) in
     omega arith
 
-returns-2 : tie.Need-returns-2
-returns-2 c =
-    rw c.before.zone-place.ensures
-    (answer_given (asked c).refusal.ensures c.before.before.if1.false)
+returns : tie.Need-returns
+returns c =
+    rw c.before.zone_place.ensures
+    (answer_given (asked c).refusal-number.ensures c.before.before.if-number-ne0.false)
 
 pub zone_byte_spec : {M : Type 1} → statement M
 zone_byte_spec =
     tie.close
-    (tie.spec refusal-requires returns zone-place-requires add-place shared-slice-read-t10 returns-2)
+    (tie.spec refusal-number-requires returns-then-number-ne0 zone_place-requires overflow_add-place bounds-table-place returns)

@@ -5,11 +5,11 @@ use Rattle.standard.specs.Table.{zone_place}
 use Rattle.table.proofs.zone_mark.Statement.{statement}
 use Rattle.table.proofs.zone_mark.Tie as tie
 
-zone-byte-requires : tie.Need-zone-byte-requires
-zone-byte-requires c κs = search rules
+zone_byte-requires : tie.Need-zone_byte-requires
+zone_byte-requires c κs = search rules
 
 returns : tie.Need-returns
-returns c = rw (← (add-zero (zone_place c.before.before.args.zone))) c.zone-byte.ensures
+returns c = rw (← (add-zero (zone_place c.before.before.args.zone))) c.zone_byte.ensures
 
 pub zone_mark_spec : {M : Type 1} → statement M
-zone_mark_spec = tie.close (tie.spec zone-byte-requires returns)
+zone_mark_spec = tie.close (tie.spec zone_byte-requires returns)

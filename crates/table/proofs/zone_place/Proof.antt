@@ -4,11 +4,11 @@ use mathlib.Core.Path.{refl}
 use Rattle.table.proofs.zone_place.Statement.{statement}
 use Rattle.table.proofs.zone_place.Tie as tie
 
-mul-result : tie.Need-overflow-mul-result
-mul-result c = omega arith
+overflow_mul-result : tie.Need-overflow_mul-result
+overflow_mul-result c = omega arith
 
 returns : tie.Need-returns
 returns c = refl
 
 pub zone_place_spec : {M : Type 1} → statement M
-zone_place_spec = tie.close (tie.spec mul-result returns)
+zone_place_spec = tie.close (tie.spec overflow_mul-result returns)

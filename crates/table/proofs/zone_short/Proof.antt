@@ -3,11 +3,11 @@ use borrow.Author.Rules.{rules}
 use Rattle.table.proofs.zone_short.Statement.{statement}
 use Rattle.table.proofs.zone_short.Tie as tie
 
-zone-byte-requires : tie.Need-zone-byte-requires
-zone-byte-requires c κs = search rules
+zone_byte-requires : tie.Need-zone_byte-requires
+zone_byte-requires c κs = search rules
 
 returns : tie.Need-returns
-returns c = c.zone-byte.ensures
+returns c = c.zone_byte.ensures
 
 pub zone_short_spec : {M : Type 1} → statement M
-zone_short_spec = tie.close (tie.spec zone-byte-requires returns)
+zone_short_spec = tie.close (tie.spec zone_byte-requires returns)

@@ -5,28 +5,28 @@ use Rattle.writer.proofs.Pieces.{ascii_size}
 use Rattle.writer.proofs.frame_length.Statement.{statement}
 use Rattle.writer.proofs.frame_length.Tie as tie
 
-enum_told : tie.Need-enum-told
-enum_told c = search rules
+enum_told-1 : tie.Need-enum_told-1
+enum_told-1 c = search rules
 
-binary-length-requires : tie.Need-binary-length-requires
-binary-length-requires c κs = search rules
+binary_length-requires : tie.Need-binary_length-requires
+binary_length-requires c κs = search rules
 
-enum-told-2 : tie.Need-enum-told-2
-enum-told-2 c = search rules
+enum_told-in-Ascii : tie.Need-enum_told-in-Ascii
+enum_told-in-Ascii c = search rules
 
-mul-result : tie.Need-overflow-mul-result
-mul-result c = search rules
+overflow_mul-result : tie.Need-overflow_mul-result
+overflow_mul-result c = search rules
 
-add-result : tie.Need-overflow-add-result
-add-result c = search rules
+overflow_add-result : tie.Need-overflow_add-result
+overflow_add-result c = search rules
 
-returns : tie.Need-returns
-returns c = rw c.before.enum_told.given.1 c.binary-length.ensures
+returns-in-Binary : tie.Need-returns-in-Binary
+returns-in-Binary c = rw c.before.in-Binary.is c.binary_length.ensures
 
-returns-2 : tie.Need-returns-2
-returns-2 c = rw c.enum-told2.given.1 (sym (ascii_size _))
+returns-in-Ascii : tie.Need-returns-in-Ascii
+returns-in-Ascii c = rw c.in-Ascii.is (sym (ascii_size _))
 
 pub frame_length_spec : {M : Type 1} → statement M
 frame_length_spec =
     tie.close
-    (tie.spec enum_told binary-length-requires enum-told-2 mul-result add-result returns returns-2)
+    (tie.spec enum_told-1 binary_length-requires enum_told-in-Ascii overflow_mul-result overflow_add-result returns-in-Binary returns-in-Ascii)

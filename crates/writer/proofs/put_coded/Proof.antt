@@ -3,45 +3,45 @@ use borrow.Author.Rules.{rules}
 use Rattle.writer.proofs.put_coded.Statement.{statement}
 use Rattle.writer.proofs.put_coded.Tie as tie
 
-enum_told : tie.Need-enum-told
-enum_told c = search rules
+enum_told-1 : tie.Need-enum_told-1
+enum_told-1 c = search rules
 
-put-stuffed-requires : tie.Need-put-stuffed-requires
-put-stuffed-requires c κs =
-    let call = c.before.before.before.before in rw c.before.enum_told.given.1 at call.requires
+put_stuffed-requires : tie.Need-put_stuffed-requires
+put_stuffed-requires c κs =
+    let call = c.before.before.before.before in rw c.before.in-Binary.is at call.requires
 
-enum-told-2 : tie.Need-enum-told-2
-enum-told-2 c = search rules
+enum_told-in-Ascii : tie.Need-enum_told-in-Ascii
+enum_told-in-Ascii c = search rules
 
-put-digits-requires : tie.Need-put-digits-requires
-put-digits-requires c κs =
-    let call = c.before.before.before.before in rw c.before.enum-told2.given.1 at call.requires
+put_digits-requires : tie.Need-put_digits-requires
+put_digits-requires c κs =
+    let call = c.before.before.before.before in rw c.before.in-Ascii.is at call.requires
 
-same_length : tie.Need-same-length
-same_length c = search rules
+shape_of-frame-in-Binary : tie.Need-shape_of-frame-in-Binary
+shape_of-frame-in-Binary c = search rules
 
-returns : tie.Need-returns
-returns c =
+returns-in-Binary : tie.Need-returns-in-Binary
+returns-in-Binary c =
     let arm = c.before.before.before.before in
-    rw arm.enum_told.given.1 c.before.before.put-stuffed.ensures
+    rw arm.in-Binary.is c.before.before.put_stuffed.ensures
 
-same-length-2 : tie.Need-same-length-2
-same-length-2 c = search rules
+shape_of-frame-in-Ascii : tie.Need-shape_of-frame-in-Ascii
+shape_of-frame-in-Ascii c = search rules
 
-returns-2 : tie.Need-returns-2
-returns-2 c =
+returns-in-Ascii : tie.Need-returns-in-Ascii
+returns-in-Ascii c =
     let arm = c.before.before.before.before in
-    rw arm.enum-told2.given.1 c.before.before.put-digits.ensures
+    rw arm.in-Ascii.is c.before.before.put_digits.ensures
 
 pub put_coded_spec : {M : Type 1} → statement M
 put_coded_spec =
     tie.close
     (tie.spec
-    enum_told
-    put-stuffed-requires
-    enum-told-2
-    put-digits-requires
-    same_length
-    returns
-    same-length-2
-    returns-2)
+    enum_told-1
+    put_stuffed-requires
+    enum_told-in-Ascii
+    put_digits-requires
+    shape_of-frame-in-Binary
+    returns-in-Binary
+    shape_of-frame-in-Ascii
+    returns-in-Ascii)

@@ -5,30 +5,30 @@ use Rattle.standard.proofs.Put.{put_none, put_one}
 use Rattle.writer.proofs.put_stop.Statement.{statement}
 use Rattle.writer.proofs.put_stop.Tie as tie
 
-enum_told : tie.Need-enum-told
-enum_told c = search rules
+enum_told-1 : tie.Need-enum_told-1
+enum_told-1 c = search rules
 
-enum-told-2 : tie.Need-enum-told-2
-enum-told-2 c = search rules
+enum_told-in-Ascii : tie.Need-enum_told-in-Ascii
+enum_told-in-Ascii c = search rules
 
-slice-write-frame : tie.Need-slice-write-frame
-slice-write-frame c =
-    let room = rw c.enum-told2.given.1 at c.before.before.requires in
+bounds-frame-place : tie.Need-bounds-frame-place
+bounds-frame-place c =
+    let room = rw c.in-Ascii.is at c.before.before.requires in
     omega (arith, room)
 
-add-result : tie.Need-overflow-add-result
-add-result c = search rules
+overflow_add-result : tie.Need-overflow_add-result
+overflow_add-result c = search rules
 
-returns : tie.Need-returns
-returns c = rw c.enum_told.given.1 (put_none _ _)
+returns-in-Binary : tie.Need-returns-in-Binary
+returns-in-Binary c = rw c.in-Binary.is (put_none _ _)
 
-same_length : tie.Need-same-length
-same_length c = search rules
+shape_of-frame : tie.Need-shape_of-frame
+shape_of-frame c = search rules
 
-returns-2 : tie.Need-returns-2
-returns-2 c = rw c.enum-told2.given.1 (put_one _ _ _)
+returns-in-Ascii : tie.Need-returns-in-Ascii
+returns-in-Ascii c = rw c.in-Ascii.is (put_one _ _ _)
 
 pub put_stop_spec : {M : Type 1} → statement M
 put_stop_spec =
     tie.close
-    (tie.spec enum_told enum-told-2 slice-write-frame add-result returns same_length returns-2)
+    (tie.spec enum_told-1 enum_told-in-Ascii bounds-frame-place overflow_add-result returns-in-Binary shape_of-frame returns-in-Ascii)

@@ -6,58 +6,58 @@ use Rattle.standard.proofs.Put.{put_one}
 use Rattle.writer.proofs.put_stuffed.Statement.{statement}
 use Rattle.writer.proofs.put_stuffed.Tie as tie
 
-put-two-requires : tie.Need-put-two-requires
-put-two-requires c κs =
+put_two-requires : tie.Need-put_two-requires
+put_two-requires c κs =
     let start = c.before in
-    rw (eq-eqb _ _ start.if1.true) at start.before.before.requires
+    rw (eq-eqb _ _ start.if-b-eq126.true) at start.before.before.requires
 
-same_length : tie.Need-same-length
-same_length c = search rules
+shape_of-frame-then-b-eq126 : tie.Need-shape_of-frame-then-b-eq126
+shape_of-frame-then-b-eq126 c = search rules
 
-returns : tie.Need-returns
-returns c =
+returns-then-b-eq126 : tie.Need-returns-then-b-eq126
+returns-then-b-eq126 c =
     let tested = c.before.before.before.before in
-    rw (eq-eqb _ _ tested.if1.true) c.before.before.put_two.ensures
+    rw (eq-eqb _ _ tested.if-b-eq126.true) c.before.before.put_two.ensures
 
-put-two-requires-2 : tie.Need-put-two-requires-2
-put-two-requires-2 c κs =
+put_two-requires-then-b-eq125 : tie.Need-put_two-requires-then-b-eq125
+put_two-requires-then-b-eq125 c κs =
     let start = c.before.before in
-    rw (ne_eqb _ _ start.if1.false, eq-eqb _ _ c.before.if2.true) at start.before.before.requires
+    rw (ne_eqb _ _ start.if-b-eq126.false, eq-eqb _ _ c.before.if-b-eq125.true) at start.before.before.requires
 
-same-length-2 : tie.Need-same-length-2
-same-length-2 c = search rules
+shape_of-frame-then-b-eq125 : tie.Need-shape_of-frame-then-b-eq125
+shape_of-frame-then-b-eq125 c = search rules
 
-returns-2 : tie.Need-returns-2
-returns-2 c =
+returns-then-b-eq125 : tie.Need-returns-then-b-eq125
+returns-then-b-eq125 c =
     let tested = c.before.before.before.before in
-    rw (ne_eqb _ _ tested.before.if1.false, eq-eqb _ _ tested.if2.true) c.before.before.put-two2.ensures
+    rw (ne_eqb _ _ tested.before.if-b-eq126.false, eq-eqb _ _ tested.if-b-eq125.true) c.before.before.put_two-then-b-eq125.ensures
 
-slice-write-frame : tie.Need-slice-write-frame
-slice-write-frame c =
+bounds-frame-place : tie.Need-bounds-frame-place
+bounds-frame-place c =
     let start = c.before in
-    let room = rw (ne_eqb _ _ start.if1.false, ne_eqb _ _ c.if2.false) at start.before.before.requires in
+    let room = rw (ne_eqb _ _ start.if-b-eq126.false, ne_eqb _ _ c.if-b-eq125.false) at start.before.before.requires in
     omega (arith, room)
 
-add-result : tie.Need-overflow-add-result
-add-result c = search rules
+overflow_add-result : tie.Need-overflow_add-result
+overflow_add-result c = search rules
 
-same-length-3 : tie.Need-same-length-3
-same-length-3 c = search rules
+shape_of-frame : tie.Need-shape_of-frame
+shape_of-frame c = search rules
 
-returns-3 : tie.Need-returns-3
-returns-3 c = rw (ne_eqb _ _ c.before.if1.false, ne_eqb _ _ c.if2.false) (put_one _ _ _)
+returns : tie.Need-returns
+returns c = rw (ne_eqb _ _ c.before.if-b-eq126.false, ne_eqb _ _ c.if-b-eq125.false) (put_one _ _ _)
 
 pub put_stuffed_spec : {M : Type 1} → statement M
 put_stuffed_spec =
     tie.close
     (tie.spec
-    put-two-requires
-    same_length
-    returns
-    put-two-requires-2
-    same-length-2
-    returns-2
-    slice-write-frame
-    add-result
-    same-length-3
-    returns-3)
+    put_two-requires
+    shape_of-frame-then-b-eq126
+    returns-then-b-eq126
+    put_two-requires-then-b-eq125
+    shape_of-frame-then-b-eq125
+    returns-then-b-eq125
+    bounds-frame-place
+    overflow_add-result
+    shape_of-frame
+    returns)

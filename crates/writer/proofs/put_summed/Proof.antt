@@ -17,44 +17,44 @@ use Rattle.writer.proofs.Pieces.{coding_none, length_more, coding_part, sums_fir
 use Rattle.writer.proofs.put_summed.Statement.{statement}
 use Rattle.writer.proofs.put_summed.Tie as tie
 
-abbrev invariant-loop : tie.invariant-loop
-invariant-loop frame₀ place message framing one₀ two₀ next₀ i₀ frame one two next i =
+abbrev invariant-loop-i : tie.invariant-loop-i
+invariant-loop-i frame₀ place message framing one₀ two₀ next₀ i₀ frame one two next i =
     (i ≤ length message) × Put frame₀ place (coding framing (take i message)) frame next
     × (◌≡◌ {A = Sums} (record { one = one; two = two }) (sums_of (length message ∷ take i message)))
 
-abbrev decreases-loop : tie.decreases-loop
-decreases-loop frame₀ place message framing one₀ two₀ next₀ i₀ frame one two next i = length message - i
+abbrev decreases-loop-i : tie.decreases-loop-i
+decreases-loop-i frame₀ place message framing one₀ two₀ next₀ i₀ frame one two next i = length message - i
 
 -- the call, from the first sums
-abbrev call : tie.After-add2 invariant-loop decreases-loop → tie.Start invariant-loop decreases-loop
+abbrev call : tie.After-add-two invariant-loop-i decreases-loop-i → tie.Start invariant-loop-i decreases-loop-i
 call c = c.before.before.before.before
 
 -- the turn in which a byte is put
-abbrev turn : tie.After-put-coded-arg invariant-loop decreases-loop → tie.At-loop invariant-loop decreases-loop
+abbrev turn : tie.After-put_coded-arg-1 invariant-loop-i decreases-loop-i → tie.At-loop-i invariant-loop-i decreases-loop-i
 turn c = c.before.before.before
 
-cast-add : tie.Need-overflow-cast-add invariant-loop decreases-loop
-cast-add c = omega arith
+overflow_cast-message : tie.Need-overflow_cast-message invariant-loop-i decreases-loop-i
+overflow_cast-message c = omega arith
 
-add-requires : tie.Need-add-requires invariant-loop decreases-loop
-add-requires c κs = tt
+add-one-requires : tie.Need-add-one-requires invariant-loop-i decreases-loop-i
+add-one-requires c κs = tt
 
-add-requires-2 : tie.Need-add-requires-2 invariant-loop decreases-loop
-add-requires-2 c κs = tt
+add-two-requires : tie.Need-add-two-requires invariant-loop-i decreases-loop-i
+add-two-requires c κs = tt
 
-loop-holds : tie.Need-loop-init invariant-loop decreases-loop
-loop-holds c =
+loop-i-init : tie.Need-loop-i-init invariant-loop-i decreases-loop-i
+loop-i-init c =
     let L = length (call c).args.message.now in
-    let after : Sums = record { one = c.before.add.result; two = c.add2.result } in
+    let after : Sums = record { one = c.before.add-one.result; two = c.add-two.result } in
     let step : after ≡ stepped (record { one = 0; two = 0 }) L = cc in
     (omega arith, rw (coding_none _) (put_none _ _), step ∙ sums_first L)
 
-shared-slice-read-b : tie.Need-shared-slice-read-b invariant-loop decreases-loop
-shared-slice-read-b c = omega arith
+bounds-message-i : tie.Need-bounds-message-i invariant-loop-i decreases-loop-i
+bounds-message-i c = omega arith
 
-put-coded-requires : tie.Need-put-coded-requires invariant-loop decreases-loop
-put-coded-requires c κs =
-    let l = (turn c).loop in
+put_coded-next-requires : tie.Need-put_coded-next-requires invariant-loop-i decreases-loop-i
+put_coded-next-requires c κs =
+    let l = (turn c).loop-i in
     let s = call (turn c).before in
     let f = s.args.framing in
     let m = s.args.message.now in
@@ -62,41 +62,41 @@ put-coded-requires c κs =
     let part = coding_part f m (l.i + 1) in
     omega (arith, put_length l.inv.1, l.inv.1.end, s.pre.1, more, part)
 
-add-requires-3 : tie.Need-add-requires-3 invariant-loop decreases-loop
-add-requires-3 c κs = tt
+add-one-requires-in-loop-i : tie.Need-add-one-requires-in-loop-i invariant-loop-i decreases-loop-i
+add-one-requires-in-loop-i c κs = tt
 
-add-requires-4 : tie.Need-add-requires-4 invariant-loop decreases-loop
-add-requires-4 c κs = tt
+add-two-requires-in-loop-i : tie.Need-add-two-requires-in-loop-i invariant-loop-i decreases-loop-i
+add-two-requires-in-loop-i c κs = tt
 
-add-i : tie.Need-overflow-add-i invariant-loop decreases-loop
-add-i c = omega arith
+overflow_add-i : tie.Need-overflow_add-i invariant-loop-i decreases-loop-i
+overflow_add-i c = omega arith
 
-loop-less : tie.Need-loop-smaller invariant-loop decreases-loop
-loop-less c = omega arith
+loop-i-smaller : tie.Need-loop-i-smaller invariant-loop-i decreases-loop-i
+loop-i-smaller c = omega arith
 
-loop-again : tie.Need-loop-preserved invariant-loop decreases-loop
-loop-again c =
+loop-i-preserved : tie.Need-loop-i-preserved invariant-loop-i decreases-loop-i
+loop-i-preserved c =
     let put = c.before.before.before.before in
     let at = turn put.before in
-    let l = at.loop in
+    let l = at.loop-i in
     let s = call at.before in
     let m = s.args.message.now in
     let b = get_or m l.i 0 in
     let before : Sums = record { one = l.one; two = l.two } in
-    let after : Sums = record { one = c.before.add3.result; two = c.add4.result } in
+    let after : Sums = record { one = c.before.add-one-in-loop-i.result; two = c.add-two-in-loop-i.result } in
     let step : after ≡ stepped before b = cc in
     let more = coding_more s.args.framing m l.i (omega arith) in (
       omega arith,
-      rw (← more) (put_then l.inv.1 put.put-coded.ensures),
+      rw (← more) (put_then l.inv.1 put.put_coded-next.ensures),
       step ∙ ap (λ s. stepped s b) l.inv.2 ∙ sums_next (length m) m l.i (omega arith),
     )
 
-same_length : tie.Need-same-length invariant-loop decreases-loop
-same_length c = put_length c.before.loop.invariant.1
+shape_of-frame : tie.Need-shape_of-frame invariant-loop-i decreases-loop-i
+shape_of-frame c = put_length c.before.loop-i.invariant.1
 
-returns : tie.Need-returns invariant-loop decreases-loop
+returns : tie.Need-returns invariant-loop-i decreases-loop-i
 returns c =
-    let l = c.before.loop in
+    let l = c.before.loop-i in
     let m = (call c.before.before).args.message.now in
     let whole : take l.i m ≡ m = take_all l.i m (omega arith) in
     (l.invariant.2 ∙ ap (λ t. sums_of (length m ∷ t)) whole, rw whole at l.invariant.1)
@@ -105,18 +105,18 @@ pub put_summed_spec : {M : Type 1} → statement M
 put_summed_spec =
     tie.close
     (tie.spec
-    invariant-loop
-    decreases-loop
-    cast-add
-    add-requires
-    add-requires-2
-    loop-holds
-    shared-slice-read-b
-    put-coded-requires
-    add-requires-3
-    add-requires-4
-    add-i
-    loop-less
-    loop-again
-    same_length
+    invariant-loop-i
+    decreases-loop-i
+    overflow_cast-message
+    add-one-requires
+    add-two-requires
+    loop-i-init
+    bounds-message-i
+    put_coded-next-requires
+    add-one-requires-in-loop-i
+    add-two-requires-in-loop-i
+    overflow_add-i
+    loop-i-smaller
+    loop-i-preserved
+    shape_of-frame
     returns)

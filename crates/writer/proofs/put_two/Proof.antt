@@ -13,20 +13,20 @@ use Rattle.writer.proofs.put_two.Tie as tie
 put_two : (l : List ℕ) (i x y : ℕ) → Put l i (x ∷ y ∷ []) (set (set l i x) (i + 1) y) (i + 2)
 put_two l i x y = record { bytes = (put_then (put_one l i x) (put_one (set l i x) (i + 1) y)).bytes; end = refl }
 
-slice-write-frame : tie.Need-slice-write-frame
-slice-write-frame c = search rules
+bounds-frame-place : tie.Need-bounds-frame-place
+bounds-frame-place c = search rules
 
-add-frame : tie.Need-overflow-add-frame
-add-frame c = search rules
+overflow_add-frame : tie.Need-overflow_add-frame
+overflow_add-frame c = search rules
 
-slice-write-frame-2 : tie.Need-slice-write-frame-2
-slice-write-frame-2 c = simp length-set (omega arith)
+bounds-frame-place-2 : tie.Need-bounds-frame-place-2
+bounds-frame-place-2 c = simp length-set (omega arith)
 
-add-result : tie.Need-overflow-add-result
-add-result c = search rules
+overflow_add-result : tie.Need-overflow_add-result
+overflow_add-result c = search rules
 
-same_length : tie.Need-same-length
-same_length c = search rules
+shape_of-frame : tie.Need-shape_of-frame
+shape_of-frame c = search rules
 
 returns : tie.Need-returns
 returns c = put_two _ _ _ _
@@ -34,4 +34,4 @@ returns c = put_two _ _ _ _
 pub put_two_spec : {M : Type 1} → statement M
 put_two_spec =
     tie.close
-    (tie.spec slice-write-frame add-frame slice-write-frame-2 add-result same_length returns)
+    (tie.spec bounds-frame-place overflow_add-frame bounds-frame-place-2 overflow_add-result shape_of-frame returns)
