@@ -145,7 +145,7 @@ fn put_partition(table: &mut [u8], message: &[u8])
         message[7],
         message[8],
     ];
-    table[place..place + 9].copy_from_slice(&fields);
+    table[place..place + 8].copy_from_slice(&fields);
 }
 
 // 07h "sets all eight short bytes and mark bit 0 of each".

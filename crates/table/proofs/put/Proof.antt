@@ -13,8 +13,8 @@ use Rattle.standard.proofs.Messages.{Passed, passed, passed_number, passed_offse
 use Rattle.standard.proofs.Applied.{Taken, taken_leaves}
 use Rattle.standard.proofs.Status.{status_is}
 use Rattle.standard.proofs.Stored.{taken}
-use Rattle.table-1.proofs.put.Statement.{statement}
-use Rattle.table-1.proofs.put.Tie as tie
+use Rattle.table.proofs.put.Statement.{statement}
+use Rattle.table.proofs.put.Tie as tie
 
 -- what was handed in, from the place where its number is known
 abbrev start : tie.After-shared_slice_known-2-1 → tie.Start
@@ -25,9 +25,9 @@ message_of c = (start c).args.message.now
 
 -- a message of number n is taken, and passed
 is : (c : tie.After-shared_slice_known-2-1) {n : ℕ} → number_of (byte 1 (message_of c)) ≡ n
-    → Taken n (start c).args.table-1.now (message_of c)
+    → Taken n (start c).args.table.now (message_of c)
 is c e =
-    let k = taken (start c).args.table-1.now (message_of c) (start c).requires.0 (start c).requires.1 in
+    let k = taken (start c).args.table.now (message_of c) (start c).requires.0 (start c).requires.1 in
     record { number = e; whole = k.whole; good = k.good }
 
 good : (c : tie.After-shared_slice_known-2-1) → Passed (message_of c)
@@ -47,7 +47,8 @@ system c =
     omega (arith, other.0.0.0.1, other.0.0.1, other.0.1, other.1)
 
 bounds-message-0 : tie.Need-bounds-message-0
-bounds-message-0 c = (good c).sized.some
+bounds-message-0 c =
+    let m = c.args.message.now in (passed m (taken c.args.table.now m c.requires.0 c.requires.1).good).sized.some
 
 put_zone-requires : tie.Need-put_zone-requires
 put_zone-requires c κs = let at = c.before.before in let e = c.before.in-4.is in ((is at e).whole, sized at e)
