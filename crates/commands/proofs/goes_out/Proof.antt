@@ -25,9 +25,9 @@ use Rattle.commands.proofs.goes_out.Tie as tie
 abbrev call : tie.After-struct_known-2-1 → tie.Start
 call c = c.before.before.before.before.before
 
-fits : (s : tie.Start) → s.args.q.s0.length ≤ length s.args.q.s0.message-1
+fits : (s : tie.Start) → s.args.q.s0.length ≤ length s.args.q.s0.message
 fits s =
-    let size : length s.args.q.s0.message-1 ≡ longest_command = search rules in
+    let size : length s.args.q.s0.message ≡ longest_command = search rules in
     omega (arith, s.requires.1, size)
 
 abbrev answer : ℕ → ℕ → List ℕ → Answer
@@ -56,7 +56,7 @@ with_flag-out-requires : tie.Need-with_flag-out-requires
 with_flag-out-requires c κs =
     let s = call c.before in
     let size : length (message_in s.args.q.s0) ≡ s.args.q.s0.length = length-take-le _ _ (fits s) in
-    (omega (arith, size, c.before.before.before.if-s-eq0.false), omega (arith, size, s.pre.1))
+    (omega (arith, size, c.before.before.before.if-s-eq0.false), omega (arith, size, s.requires.1))
 
 overflow_add-front : tie.Need-overflow_add-front
 overflow_add-front c = search rules
@@ -68,7 +68,7 @@ returns c =
     let s = call at.before in
     let q = s.args.q in
     let size : q.s0.length ≡ length (flagged (message_in q.s0)) =
-    sym (length_out q.s0.length q.s0.message-1 (fits s)) in
+    sym (length_out q.s0.length q.s0.message (fits s)) in
     simp (ne_eqb _ _ at.before.before.before.if-s-eq0.false) (λ j.
     after (answer (ended_number s.args.ended) (size j) (c.before.with_flag-out.ensures j))
     (sent_once q.s0 ∷ drop 1 (row q)))

@@ -13,7 +13,7 @@ use Rattle.commands.proofs.Held.{first_byte, good_some, sound_front}
 use Rattle.commands.proofs.hears.Statement.{statement}
 use Rattle.commands.proofs.hears.Tie as tie
 
-size : (s : tie.Start) → length s.args.q.s0.message-1 ≡ longest_command
+size : (s : tie.Start) → length s.args.q.s0.message ≡ longest_command
 size s = search rules
 
 -- whether the front ends, as the code has found
@@ -23,9 +23,9 @@ found c =
     let s = c.before.before.before in
     let q = s.args.q in
     let front = holds q.s0 (sound_front q.s0 (drop 1 (row q)) s.requires.1 s.requires.0).holds in
-    let whole : q.s0.length ≤ length q.s0.message-1 = omega (arith, front.few, size s) in
-    let some = good_some q.s0.length q.s0.message-1 whole front.good in
-    rw (first_byte q.s0.length q.s0.message-1 some) (sym c.ends.ensures)
+    let whole : q.s0.length ≤ length q.s0.message = omega (arith, front.few, size s) in
+    let some = good_some q.s0.length q.s0.message whole front.good in
+    rw (first_byte q.s0.length q.s0.message some) (sym c.ends.ensures)
 
 bounds-message-0 : tie.Need-bounds-message-0
 bounds-message-0 c = search rules
@@ -45,7 +45,7 @@ returns-then-ends c =
     let call = by.before.before in
     let s = call.before.before.before in
     rw (s.requires.1, found call ∙ by.before.if-ends.true)
-    (c.Ended-by.ensures ∙ ap (λ (n : ℕ). ended_by n (row s.args.q)) by.end_by.ensures)
+    (c.ended_by.ensures ∙ ap (λ (n : ℕ). ended_by n (row s.args.q)) by.end_by.ensures)
 
 sends_again-requires : tie.Need-sends_again-requires
 sends_again-requires c κs = search rules

@@ -20,12 +20,12 @@ returns-then-n-gt-LONGEST_COMMAND c = simp (lt-leb _ _ c.if-n-gt-LONGEST_COMMAND
 
 slice_bounds-message-end : tie.Need-slice_bounds-message-end
 slice_bounds-message-end c =
-    let size : length c.before.before.before.args.s.message-1 ≡ longest_command = search rules in
+    let size : length c.before.before.before.args.s.message ≡ longest_command = search rules in
     omega arith
 
 slice_bounds-check-end : tie.Need-slice_bounds-check-end
 slice_bounds-check-end c =
-    let size : length c.before.before.before.before.args.s.message-1 ≡ longest_command = search rules in
+    let size : length c.before.before.before.before.args.s.message ≡ longest_command = search rules in
     sym (length-take-le _ _ (omega arith))
 
 check-requires : tie.Need-check-requires
@@ -54,9 +54,9 @@ returns c =
     let few = call.before.before.if-n-gt-LONGEST_COMMAND.false in
     let s = call.before.before.before.before.before.args.s in
     let good : check_of (message_in s) ≡ 0 = sym call.check.ensures ∙ c.before.if-check-ne0.false in
-    let size : length s.message-1 ≡ longest_command = search rules in
-    let some : 1 ≤ s.length = good_some s.length s.message-1 (omega (arith, few, size)) good in
-    simp (le-leb _ _ few, eq-eqb _ _ good, first_byte s.length s.message-1 some) c.one_of_them.ensures
+    let size : length s.message ≡ longest_command = search rules in
+    let some : 1 ≤ s.length = good_some s.length s.message (omega (arith, few, size)) good in
+    simp (le-leb _ _ few, eq-eqb _ _ good, first_byte s.length s.message some) c.one_of_them.ensures
 
 pub holds_one_spec : {M : Type 1} → statement M
 holds_one_spec =

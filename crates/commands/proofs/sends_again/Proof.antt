@@ -28,7 +28,7 @@ returns-else-s-lt4 : tie.Need-returns-else-s-lt4
 returns-else-s-lt4 c =
     let test = c.before in
     let four : 4 ≤ test.before.before.before.args.q.s0.sent = omega (arith, test.if-s-lt4.false) in
-    simp (le-leb _ _ four) c.Ended-by.ensures
+    simp (le-leb _ _ four) c.ended_by.ensures
 
 pub sends_again_spec : {M : Type 1} → statement M
 sends_again_spec = tie.close (tie.spec goes_out-requires ended_by-requires returns-then-s-lt4 returns-else-s-lt4)

@@ -4,7 +4,7 @@ use mathlib.Core.Path.{◌≡◌, sym, ap, ◌∙◌}
 use mathlib.Core.Bool.{true}
 use mathlib.Core.List.{[]}
 use borrow.Author.Rules.{rules}
-use borrow.Author.Tests.{eq-eqb, ne_eqb, not-true, not-false}
+use borrow.Author.Tests.{eq-eqb, ne_eqb}
 use Rattle.standard.specs.Messages.{check_of}
 use Rattle.commands.specs.Commands.{sound, Answer, says, after, row}
 use Rattle.commands.proofs.Flag.{good_length}
@@ -17,10 +17,10 @@ abbrev start : tie.Else-not-sound → tie.Start
 start c = c.before.before.before
 
 is_sound_lem : (c : tie.Else-not-sound) → sound (row (start c).args.q) ≡ true
-is_sound_lem c = sym c.before.sound.ensures ∙ not-false _ c.if-not-sound.false-raw
+is_sound_lem c = sym c.before.sound.ensures ∙ c.if-not-sound.false
 
 is_good : (c : tie.Else-number-ne0) → check_of (start c.before.before).args.message.now ≡ 0
-is_good c = sym c.before.check-number.ensures ∙ c.if-number-ne0.false-raw
+is_good c = sym c.before.check-number.ensures ∙ c.if-number-ne0.false
 
 sound-requires : tie.Need-sound-requires
 sound-requires c κs = search rules
@@ -34,7 +34,7 @@ returns-then-not-sound c =
     let a = call.before.before.args in
     ap (λ (x : Answer). after x (row a.q)) c.refused.ensures
     ∙ sym
-    (told_unsound (row a.q) (sym call.sound.ensures ∙ not-true _ c.before.if-not-sound.true-raw) a.message.now)
+    (told_unsound (row a.q) (sym call.sound.ensures ∙ c.before.if-not-sound.true) a.message.now)
 
 check-number-requires : tie.Need-check-number-requires
 check-number-requires c κs = search rules
@@ -49,7 +49,7 @@ returns-then-number-ne0 c =
     let a = (start call.before).args in
     let xs = row a.q in
     ap (λ (x : Answer). after x xs) c.refused-then-number-ne0.ensures ∙ ap (λ (n : ℕ). after (says n 0 []) xs) e
-    ∙ sym (told_refused xs (is_sound_lem call.before) a.message.now (λ z. c.before.if-number-ne0.true-raw (e ∙ z)))
+    ∙ sym (told_refused xs (is_sound_lem call.before) a.message.now (λ z. c.before.if-number-ne0.true (e ∙ z)))
 
 silent-requires : tie.Need-silent-requires
 silent-requires c κs = search rules
@@ -61,7 +61,7 @@ returns-then-q-eq0 c =
     let first = good.before.before in
     let a = (start first).args in
     let xs = row a.q in
-    rw (told_runs xs (is_sound_lem first) a.message.now (is_good good), eq-eqb _ _ test.if-q-eq0.true-raw)
+    rw (told_runs xs (is_sound_lem first) a.message.now (is_good good), eq-eqb _ _ test.if-q-eq0.true)
     (ap (λ (x : Answer). after x xs) c.silent.ensures)
 
 bounds-message-0 : tie.Need-bounds-message-0
@@ -71,7 +71,7 @@ hears-requires : tie.Need-hears-requires
 hears-requires c κs =
     let test = c.before in
     let good = test.before.before in
-    (is_sound_lem good.before.before, ne_eqb _ _ test.if-q-eq0.false-raw)
+    (is_sound_lem good.before.before, ne_eqb _ _ test.if-q-eq0.false)
 
 returns : tie.Need-returns
 returns c =

@@ -1,0 +1,16 @@
+-- The message is laid over the zeros, and the flag is set in its first byte. Assumes nothing.
+use Rattle.std.proofs.Common.{◌≡◌, refl, ap, ◌∙◌, ◌+◌, ◌%◌, ◌≤◌, ◌++◌, ℕ, List, length, slice_index_or, slice_set, arith}
+use lib.ListN.{drop, replicate}
+use Rattle.standard.proofs.Put.{copied_to, put_laid}
+use Rattle.commands.specs.Commands.{longest_command, padded}
+use Rattle.commands.proofs.Flag.{flag_first}
+use Rattle.commands.proofs.with_flag.Goals as goal
+
+pub returns : goal.returns
+returns c =
+    let m = c.args.message.now in
+    let zeros : List ℕ = replicate longest_command 0 in
+    let fit : 0 + length m ≤ length zeros = omega arith in
+    let out : c.copy_from_slice.new.self ++ drop (length m) zeros ≡ padded m =
+    put_laid (copied_to 0 (length m) m zeros fit refl c.copy_from_slice.ensures.after) fit in
+    ap (λ (l : List ℕ). slice_set l 0 (128 + slice_index_or l 0 0 % 128)) out ∙ flag_first m c.requires.in_bounds
