@@ -14,43 +14,43 @@ abbrev call : tie.After-refusal → tie.Start
 call c = c.before.before
 
 -- past the test the table is whole
-whole : (c : tie.Else1) → is_table (call c.before).args.table.now ≡ true
-whole c = sym (whole_is _) ∙ eq-eqb _ _ (sym c.before.refusal.ensures ∙ c.if1.false)
+whole : (c : tie.Else-refusal-ne0) → is_table (call c.before).args.table.now ≡ true
+whole c = sym (whole_is _) ∙ eq-eqb _ _ (sym c.before.refusal.ensures ∙ c.if-refusal-ne0.false)
 
-refused : (c : tie.Then1) → is_table (call c.before).args.table.now ≡ false
-refused c = sym (whole_is _) ∙ ne_eqb _ _ (λ z. c.if1.true (c.before.refusal.ensures ∙ z))
+refused : (c : tie.Then-refusal-ne0) → is_table (call c.before).args.table.now ≡ false
+refused c = sym (whole_is _) ∙ ne_eqb _ _ (λ z. c.if-refusal-ne0.true (c.before.refusal.ensures ∙ z))
 
 refusal-requires : tie.Need-refusal-requires
 refusal-requires c κs = search rules
 
-with-share-requires : tie.Need-with-share-requires
-with-share-requires c κs = search rules
+with_share-requires : tie.Need-with_share-requires
+with_share-requires c κs = search rules
+
+returns-then-refusal-ne0 : tie.Need-returns-then-refusal-ne0
+returns-then-refusal-ne0 c = rw (refused c.before) c.with_share.ensures
+
+with_share-requires-then-index-ge16 : tie.Need-with_share-requires-then-index-ge16
+with_share-requires-then-index-ge16 c κs = search rules
+
+returns-then-index-ge16 : tie.Need-returns-then-index-ge16
+returns-then-index-ge16 c = rw (whole c.before.before, le-ltb _ _ c.before.if-index-ge16.true) c.with_share-then-index-ge16.ensures
+
+group_at-requires : tie.Need-group_at-requires
+group_at-requires c κs =
+    let at = c.before in
+    (asked_whole _ (sym at.before.refusal.ensures ∙ at.if-refusal-ne0.false), c.if-index-ge16.false)
 
 returns : tie.Need-returns
-returns c = rw (refused c.before) c.with-share.ensures
-
-with-share-requires-2 : tie.Need-with-share-requires-2
-with-share-requires-2 c κs = search rules
-
-returns-2 : tie.Need-returns-2
-returns-2 c = rw (whole c.before.before, le-ltb _ _ c.before.if2.true) c.with-share2.ensures
-
-group-at-requires : tie.Need-group-at-requires
-group-at-requires c κs =
-    let at = c.before in
-    (asked_whole _ (sym at.before.refusal.ensures ∙ at.if1.false), c.if2.false)
-
-returns-3 : tie.Need-returns-3
-returns-3 c = rw (whole c.before.before, lt-ltb _ _ c.before.if2.false) c.group_at.ensures
+returns c = rw (whole c.before.before, lt-ltb _ _ c.before.if-index-ge16.false) c.group_at.ensures
 
 pub group_spec : {M : Type 1} → statement M
 group_spec =
     tie.close
     (tie.spec
     refusal-requires
-    with-share-requires
-    returns
-    with-share-requires-2
-    returns-2
-    group-at-requires
-    returns-3)
+    with_share-requires
+    returns-then-refusal-ne0
+    with_share-requires-then-index-ge16
+    returns-then-index-ge16
+    group_at-requires
+    returns)

@@ -8,22 +8,22 @@ use borrow.Author.Rules.{rules}
 use Rattle.overview.proofs.group_at.Statement.{statement}
 use Rattle.overview.proofs.group_at.Tie as tie
 
-mul-run-at : tie.Need-overflow-mul-run-at
-mul-run-at c = omega arith
+overflow_mul-index : tie.Need-overflow_mul-index
+overflow_mul-index c = omega arith
 
-run-at-requires : tie.Need-run-at-requires
-run-at-requires c κs = (c.before.requires.0, omega arith)
+run_at-counts-requires : tie.Need-run_at-counts-requires
+run_at-counts-requires c κs = (c.before.requires.0, omega arith)
 
-with-share-requires : tie.Need-with-share-requires
-with-share-requires c κs = search rules
+with_share-requires : tie.Need-with_share-requires
+with_share-requires c κs = search rules
 
 returns : tie.Need-returns
 returns c =
-    let run = c.before.run_at.ensures in
-    c.with-share.ensures
+    let run = c.before.run_at-counts.ensures in
+    c.with_share.ensures
     ∙ ap₂ counted
     (ap (λ (r : Counts). r.heard) run ∙ sym (heard_zones _ _))
     (ap (λ (r : Counts). r.faulted) run ∙ sym (faulted_zones _ _))
 
 pub group_at_spec : {M : Type 1} → statement M
-group_at_spec = tie.close (tie.spec mul-run-at run-at-requires with-share-requires returns)
+group_at_spec = tie.close (tie.spec overflow_mul-index run_at-counts-requires with_share-requires returns)

@@ -10,26 +10,26 @@ use Rattle.overview.proofs.run.Statement.{statement}
 use Rattle.overview.proofs.run.Tie as tie
 
 -- past the test the table has its length
-entire : (c : tie.Else1) → length c.before.before.before.args.table.now ≡ table_bytes
-entire c = asked_whole _ (sym c.before.refusal.ensures ∙ c.if1.false)
+entire : (c : tie.Else-refusal-ne0) → length c.before.before.before.args.table.now ≡ table_bytes
+entire c = asked_whole _ (sym c.before.refusal.ensures ∙ c.if-refusal-ne0.false)
 
 refusal-requires : tie.Need-refusal-requires
 refusal-requires c κs = search rules
 
+returns-then-refusal-ne0 : tie.Need-returns-then-refusal-ne0
+returns-then-refusal-ne0 c = sym (run_refused _ _ _ (λ e. c.if-refusal-ne0.true (c.before.refusal.ensures ∙ whole_asked _ e)))
+
+overflow_add-from : tie.Need-overflow_add-from
+overflow_add-from c = search rules
+
+returns-then-from-n-gt256 : tie.Need-returns-then-from-n-gt256
+returns-then-from-n-gt256 c = sym (run_beyond _ _ _ (omega arith))
+
+run_at-requires : tie.Need-run_at-requires
+run_at-requires c κs = (entire c.before, omega arith)
+
 returns : tie.Need-returns
-returns c = sym (run_refused _ _ _ (λ e. c.if1.true (c.before.refusal.ensures ∙ whole_asked _ e)))
-
-add-if2 : tie.Need-overflow-add-if2
-add-if2 c = search rules
-
-returns-2 : tie.Need-returns-2
-returns-2 c = sym (run_beyond _ _ _ (omega arith))
-
-run-at-requires : tie.Need-run-at-requires
-run-at-requires c κs = (entire c.before, omega arith)
-
-returns-3 : tie.Need-returns-3
-returns-3 c = c.run_at.ensures ∙ sym (run_whole _ _ _ (entire c.before.before) (omega arith))
+returns c = c.run_at.ensures ∙ sym (run_whole _ _ _ (entire c.before.before) (omega arith))
 
 pub run_spec : {M : Type 1} → statement M
-run_spec = tie.close (tie.spec refusal-requires returns add-if2 returns-2 run-at-requires returns-3)
+run_spec = tie.close (tie.spec refusal-requires returns-then-refusal-ne0 overflow_add-from returns-then-from-n-gt256 run_at-requires returns)

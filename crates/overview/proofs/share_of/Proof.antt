@@ -8,17 +8,17 @@ use Rattle.standard.proofs.Shares.{divided}
 use Rattle.overview.proofs.share_of.Statement.{statement}
 use Rattle.overview.proofs.share_of.Tie as tie
 
+returns-then-heard-eq0 : tie.Need-returns-then-heard-eq0
+returns-then-heard-eq0 c = search rules
+
+int_to_float-result : tie.Need-int_to_float-result
+int_to_float-result c = search rules
+
+int_to_float-result-2 : tie.Need-int_to_float-result-2
+int_to_float-result-2 c = search rules
+
 returns : tie.Need-returns
-returns c = search rules
-
-int-to-float-t4 : tie.Need-int-to-float-t4
-int-to-float-t4 c = search rules
-
-int-to-float-t5 : tie.Need-int-to-float-t5
-int-to-float-t5 c = search rules
-
-returns-2 : tie.Need-returns-2
-returns-2 c = divided binary64 _ _ (omega arith) (omega arith) (omega arith)
+returns c = divided binary64 _ _ (omega arith) (omega arith) (omega arith)
 
 pub share_of_spec : {M : Type 1} → statement M
-share_of_spec = tie.close (tie.spec returns int-to-float-t4 int-to-float-t5 returns-2)
+share_of_spec = tie.close (tie.spec returns-then-heard-eq0 int_to_float-result int_to_float-result-2 returns)
