@@ -95,9 +95,9 @@ loop-i-preserved c =
     let step : after ≡ stepped before b = cc in
     record {
       within = omega arith;
-      small = omega (arith, l.inv.small, c.stuffed_length-size-in-loop-i.ensures.1);
-      sums = step ∙ ap (λ s. stepped s b) l.inv.sums ∙ sums_next (length m) m l.i (omega arith);
-      coded = omega (arith, l.inv.coded, c.stuffed_length-size-in-loop-i.ensures.0, length_more Binary m l.i (omega arith));
+      small = omega (arith, l.invariant.small, c.stuffed_length-size-in-loop-i.ensures.1);
+      sums = step ∙ ap (λ s. stepped s b) l.invariant.sums ∙ sums_next (length m) m l.i (omega arith);
+      coded = omega (arith, l.invariant.coded, c.stuffed_length-size-in-loop-i.ensures.0, length_more Binary m l.i (omega arith));
     }
 
 stuffed_length-requires : tie.Need-stuffed_length-requires invariant-loop-i decreases-loop-i
@@ -120,8 +120,8 @@ returns c =
     let l = (last_turn c).loop-i in
     let m = (call (last_turn c).before).args.message.now in
     let whole : take l.i m ≡ m = take_all l.i m (omega arith) in
-    let sums = l.inv.sums ∙ ap (λ t. sums_of (length m ∷ t)) whole in
-    let size = l.inv.coded ∙ ap (λ t. length (stuffed (length m)) + length (coding Binary t)) whole in
+    let sums = l.invariant.sums ∙ ap (λ t. sums_of (length m ∷ t)) whole in
+    let size = l.invariant.coded ∙ ap (λ t. length (stuffed (length m)) + length (coding Binary t)) whole in
     let one = c.before.stuffed_length.ensures.0 ∙ ap (λ (x : Sums). length (stuffed x.one)) sums in
     let two = c.stuffed_length-2.ensures.0 ∙ ap (λ (x : Sums). length (stuffed x.two)) sums in
     omega (arith, size, one, two, pieces_length Binary m)

@@ -19,8 +19,8 @@ m s = s.args.message.now
 abbrev f : tie.Start → Framing
 f s = s.args.framing
 
-fits : (s : tie.Start) → pieces.Fits (f s) (m s) (length s.args.frame-1.now)
-fits s = pieces.pieces_fit (f s) (m s) (length s.args.frame-1.now) s.requires.1
+fits : (s : tie.Start) → pieces.Fits (f s) (m s) (length s.args.frame.now)
+fits s = pieces.pieces_fit (f s) (m s) (length s.args.frame.now) s.requires.1
 
 -- behind each piece, from where the next is put
 abbrev at_length : tie.After-put_summed-arg-1 → tie.After-put_coded-first
@@ -53,27 +53,27 @@ from_two c = from_one (at_one c.before)
 
 -- what stands there then
 abbrev Stands : tie.Start → List ℕ → List ℕ → ℕ → Type 0
-Stands s part after next = Put s.args.frame-1.now 0 part after next
+Stands s part after next = Put s.args.frame.now 0 part after next
 
 length_stands : (c : tie.After-put_coded-first)
-    → Stands (from_length c) (pieces.to_length (f (from_length c)) (m (from_length c))) c.put_coded-first.new.0
+    → Stands (from_length c) (pieces.to_length (f (from_length c)) (m (from_length c))) c.put_coded-first.new.frame
     c.put_coded-first.result
 length_stands c = rw (← c.before.before.start_of.ensures) (put_then (put_one _ 0 _) c.put_coded-first.ensures)
 
 message_stands : (c : tie.After-put_summed-coded)
-    → Stands (from_message c) (pieces.to_message (f (from_message c)) (m (from_message c))) c.put_summed-coded.new.0
+    → Stands (from_message c) (pieces.to_message (f (from_message c)) (m (from_message c))) c.put_summed-coded.new.frame
     c.put_summed-coded.result.next
 message_stands c = put_then (length_stands (at_length c.before)) c.put_summed-coded.ensures.1
 
 one_stands : (c : tie.After-put_coded-one)
-    → Stands (from_one c) (pieces.to_one (f (from_one c)) (m (from_one c))) c.put_coded-one.new.0
+    → Stands (from_one c) (pieces.to_one (f (from_one c)) (m (from_one c))) c.put_coded-one.new.frame
     c.put_coded-one.result
 one_stands c =
     let put = at_message c.before in
     put_then (message_stands put) (rw put.put_summed-coded.ensures.0 at c.put_coded-one.ensures)
 
 two_stands : (c : tie.After-put_coded-two)
-    → Stands (from_two c) (pieces.to_two (f (from_two c)) (m (from_two c))) c.put_coded-two.new.0
+    → Stands (from_two c) (pieces.to_two (f (from_two c)) (m (from_two c))) c.put_coded-two.new.frame
     c.put_coded-two.result
 two_stands c =
     let put = at_one c.before in
@@ -98,7 +98,7 @@ put_summed-coded-requires : tie.Need-put_summed-coded-requires
 put_summed-coded-requires c κs =
     let put = at_length c in
     let s = from_length put in
-    (s.pre.0, pieces.next_fits (coding (f s) (m s)) (length_stands put) (fits s).message)
+    (s.requires.0, pieces.next_fits (coding (f s) (m s)) (length_stands put) (fits s).message)
 
 put_coded-one-requires : tie.Need-put_coded-one-requires
 put_coded-one-requires c κs =
@@ -122,7 +122,7 @@ put_stop-requires c κs =
 
 stands : (c : tie.After-put_stop)
     → let s = from_two (at_two c.before) in
-    Stands s (pieces.to_two (f s) (m s) ++ stop_of (f s)) c.put_stop.new.0 c.put_stop.result
+    Stands s (pieces.to_two (f s) (m s) ++ stop_of (f s)) c.put_stop.new.frame c.put_stop.result
 stands c = put_then (two_stands (at_two c.before)) c.put_stop.ensures
 
 shape_of-frame : tie.Need-shape_of-frame

@@ -13,7 +13,7 @@ enum_told-in-Ascii c = search rules
 
 bounds-frame-place : tie.Need-bounds-frame-place
 bounds-frame-place c =
-    let room = rw c.in-Ascii.is at c.before.before.requires in
+    let room = rw c.in-Ascii.is at c.requires in
     omega (arith, room)
 
 overflow_add-result : tie.Need-overflow_add-result

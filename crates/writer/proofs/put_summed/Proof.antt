@@ -60,7 +60,7 @@ put_coded-next-requires c κs =
     let m = s.args.message.now in
     let more = length_more f m l.i (omega arith) in
     let part = coding_part f m (l.i + 1) in
-    omega (arith, put_length l.inv.1, l.inv.1.end, s.pre.1, more, part)
+    omega (arith, put_length l.invariant.1, l.invariant.1.end, s.requires.1, more, part)
 
 add-one-requires-in-loop-i : tie.Need-add-one-requires-in-loop-i invariant-loop-i decreases-loop-i
 add-one-requires-in-loop-i c κs = tt
@@ -87,8 +87,8 @@ loop-i-preserved c =
     let step : after ≡ stepped before b = cc in
     let more = coding_more s.args.framing m l.i (omega arith) in (
       omega arith,
-      rw (← more) (put_then l.inv.1 put.put_coded-next.ensures),
-      step ∙ ap (λ s. stepped s b) l.inv.2 ∙ sums_next (length m) m l.i (omega arith),
+      rw (← more) (put_then l.invariant.1 put.put_coded-next.ensures),
+      step ∙ ap (λ s. stepped s b) l.invariant.2 ∙ sums_next (length m) m l.i (omega arith),
     )
 
 shape_of-frame : tie.Need-shape_of-frame invariant-loop-i decreases-loop-i

@@ -26,7 +26,7 @@ abbrev f : tie.Start → Framing
 f s = s.args.framing
 
 abbrev out : tie.Start → List ℕ
-out s = s.args.out-1.now
+out s = s.args.out.now
 
 -- the beginning, from the places of the code that speak of it
 abbrev from_passed : tie.Else-checked-ne0 → tie.Start
