@@ -1,5 +1,5 @@
 -- `station_log::close_up` meets its contract: each record is moved behind the one before. Assumes nothing.
-use Rattle.std.proofs.Common.{ℕ, ◌+◌, sym, subst, get_or, arith}
+use Rattle.std.proofs.Common.{ℕ, ◌+◌, sym, subst, arith}
 use Rattle.station_log.proofs.Moving.{Moved, moved_none, next, moved_one, moved_all}
 use Rattle.station_log.proofs.close_up.Goals as goal
 

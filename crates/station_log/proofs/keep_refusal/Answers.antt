@@ -1,7 +1,6 @@
 -- `station_log::keep_refusal` meets its contract: the tests in their order. Assumes nothing.
-use Rattle.std.proofs.Common.{◌≡◌, ℕ, ◌+◌, ◌≤◌, sym, ap, ◌∙◌, Bool, true, false, cond, List, length, take, length-append, arith}
+use Rattle.std.proofs.Common.{◌≡◌, ℕ, ◌+◌, sym, ap, ◌∙◌, Bool, true, false, cond, List, length, take, length-append, arith}
 use Rattle.standard.specs.Messages.{check_of, is_status}
-use Rattle.standard.proofs.Messages.{good_few}
 use Rattle.station_log.specs.Log.{record_of, sound, beyond, keep_refusal}
 use Rattle.station_log.proofs.Refusing.{keep_16, keep_17, keep_own, keep_18, keep_else}
 use Rattle.station_log.proofs.keep_refusal.Goals as goal

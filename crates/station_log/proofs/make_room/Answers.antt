@@ -1,5 +1,5 @@
 -- `station_log::make_room` meets its contract: nothing is moved before the walk has come to the beginning. Assumes nothing.
-use Rattle.std.proofs.Common.{◌≡◌, ℕ, ◌-◌, refl, sym, ◌∙◌, Bool, true, false, cond, List, length, take, drop, length-drop, arith}
+use Rattle.std.proofs.Common.{◌≡◌, ℕ, ◌-◌, refl, sym, ◌∙◌, Bool, true, false, cond, List, take, drop, length-drop, arith}
 use lib.Seq.{take_all}
 use Rattle.station_log.specs.Log.{sound}
 use Rattle.station_log.specs.Cells.{cells_most, places_in, Walks}

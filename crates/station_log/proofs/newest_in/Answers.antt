@@ -4,7 +4,7 @@ use Rattle.standard.proofs.Status.{status_length_lem}
 use Rattle.station_log.specs.declared.Found.{Found}
 use Rattle.station_log.specs.Log.{last_message, sound, about}
 use Rattle.station_log.specs.Places.{found_in}
-use Rattle.station_log.proofs.Backwards.{Turn, turn, turn_stops, turn_message, left_whole, left_turn, left_none}
+use Rattle.station_log.proofs.Backwards.{Turn, turn, turn_stops, turn_message, left_turn, left_none}
 use Rattle.station_log.proofs.Finding.{found_none, found_empty, found_other, found_here, found_unsound}
 use Rattle.station_log.proofs.newest_in.Goals as goal
 

@@ -1,5 +1,5 @@
 -- `station_log::note` meets its contract: an arm for each number, the last for 08h. Assumes nothing.
-use Rattle.std.proofs.Common.{◌≡◌, ℕ, ◌+◌, ◌≤◌, ◌<◌, refl, ap, true, List, length, set, arith}
+use Rattle.std.proofs.Common.{◌≡◌, ℕ, ◌+◌, ◌≤◌, ◌<◌, refl, ap, true, List, set, arith}
 use Rattle.standard.specs.Words.{byte}
 use Rattle.standard.specs.Messages.{number_of, is_status}
 use Rattle.standard.proofs.Messages.{passed, passed_offset, passed_partition}
@@ -7,20 +7,12 @@ use Rattle.standard.proofs.Status.{status_is, status_length_lem}
 use Rattle.station_log.proofs.Celled.{cells_06, cells_07, cells_08, marked_04, marked_one, filled_05}
 use Rattle.station_log.proofs.note.Goals as goal
 
--- the checked values of 05h and 06h, and that the last arm is 08h's
+-- the checked values of 05h and 06h
 offset : (m : List ℕ) → is_status m ≡ true → number_of (byte 1 m) ≡ 0x05 → byte 2 m ≤ 240
 offset m s e = passed_offset m (passed m (status_is m s).0) e
 
 partition : (m : List ℕ) → is_status m ≡ true → number_of (byte 1 m) ≡ 0x06 → byte 2 m ≤ 7
 partition m s e = passed_partition m (passed m (status_is m s).0) e
-
-last : (m : List ℕ) → is_status m ≡ true → (number_of (byte 1 m) ≡ 0x04 → ⊥) → (number_of (byte 1 m) ≡ 0x05 → ⊥)
-    → (number_of (byte 1 m) ≡ 0x06 → ⊥) → (number_of (byte 1 m) ≡ 0x07 → ⊥) → number_of (byte 1 m) ≡ 0x08
-last m s a b d e =
-    let five = (status_is m s).1 in
-    let least = five.least in
-    let most = five.most in
-    omega arith
 
 pub bounds-message-1 : goal.bounds-message-1
 bounds-message-1 c = let n = status_length_lem c.args.message.now c.requires.message_value in omega arith
@@ -80,8 +72,10 @@ pub returns-in_default : goal.returns-in_default
 returns-in_default c =
     let a = c.args in
     let n = c.requires.cells_len in
-    let r = c.in_default.in_default-own.rest in
-    let e = last a.message.now c.requires.message_value r.0.0.0.1 r.0.0.1 r.0.1 r.1 in
+    let five = (status_is a.message.now c.requires.message_value).1 in
+    let least = five.least in
+    let most = five.most in
+    let e : number_of (byte 1 a.message.now) ≡ 0x08 = omega arith in
     let m = marked_one a.cells.now a.message.now 521 (cells_08 a.message.now e) (λ z. omega arith) (omega arith)
     c.mark-in_default.ensures.value c.mark-in_default.ensures.cells_after in
     record { value = m.0; cells_after = m.1 }

@@ -1,11 +1,9 @@
 -- `station_log::walk` meets its contract: a turn notes the last record, and remembers its place where it stays. Assumes
 -- nothing.
-use Rattle.std.proofs.Common.{◌≡◌, ℕ, ◌-◌, sym, ap, subst, ◌∙◌, true, List, length, take, drop, set, arith}
-use Rattle.standard.specs.Words.{Bytes}
+use Rattle.std.proofs.Common.{◌≡◌, ℕ, ◌-◌, sym, ap, subst, ◌∙◌, true, List, length, set, arith}
 use Rattle.standard.specs.Messages.{is_status}
-use Rattle.station_log.specs.Log.{last_message}
 use Rattle.station_log.specs.Cells.{is_new, noted}
-use Rattle.station_log.proofs.Backwards.{Turn, turn, turn_stops, turn_message}
+use Rattle.station_log.proofs.Backwards.{turn, turn_stops, turn_message}
 use Rattle.station_log.proofs.Going.{Going, going_start, going_on, one_left, going_kept, going_none, going_all}
 use Rattle.station_log.proofs.walk.Goals as goal
 
