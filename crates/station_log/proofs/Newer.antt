@@ -1,6 +1,6 @@
 -- THE NEWEST RECORD ABOUT A ZONE, over the list of records: it is the newest, there is none exactly if the log has
 -- none, and what it is after `keep`. Assumes nothing.
-use Prim.Native.Nat.{ℕ, ◌+◌}
+use Prim.Native.Nat.{ℕ}
 use native.Mathlib.Omega.{arith}
 use mathlib.Core.Path.{◌≡◌, refl, sym, ap, ◌∙◌}
 use mathlib.Core.Bool.{Bool, true, false, cond, not, ◌||◌, false≢true}
