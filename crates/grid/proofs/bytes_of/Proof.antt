@@ -7,27 +7,27 @@ use Rattle.grid.specs.Cells.{is_number}
 use Rattle.grid.proofs.bytes_of.Statement.{statement}
 use Rattle.grid.proofs.bytes_of.Tie as tie
 
-enum_told : tie.Need-enum-told
-enum_told c = search rules
+enum_told-1 : tie.Need-enum_told-1
+enum_told-1 c = search rules
 
-enum-known-cell : tie.Need-enum-known-cell
-enum-known-cell c = search rules
+enum_known-cell : tie.Need-enum_known-cell
+enum_known-cell c = search rules
 
-float-to-bits-little-endian : tie.Need-float-to-bits-little-endian
-float-to-bits-little-endian c =
-    subst (λ k. T (is_number (cell_number k))) c.before.cell.given.1 c.before.before.before.requires
+float_to_bits-x : tie.Need-float_to_bits-x
+float_to_bits-x c =
+    subst (λ k. T (is_number (cell_number k))) c.before.in-Share.is c.before.before.before.requires
 
-little-endian-requires : tie.Need-little-endian-requires
-little-endian-requires c κs = search rules
+little_endian-requires : tie.Need-little_endian-requires
+little_endian-requires c κs = search rules
 
-returns : tie.Need-returns
-returns c = search rules
+returns-in-NotHeard : tie.Need-returns-in-NotHeard
+returns-in-NotHeard c = search rules
 
-returns-2 : tie.Need-returns-2
-returns-2 c =
-    c.little_endian.ensures ∙ ap (λ k. bytes_of (cell_number k)) (sym c.before.before.cell.given.1)
+returns-in-Share : tie.Need-returns-in-Share
+returns-in-Share c =
+    c.little_endian.ensures ∙ ap (λ k. bytes_of (cell_number k)) (sym c.before.before.in-Share.is)
 
 pub bytes_of_spec : {M : Type 1} → statement M
 bytes_of_spec =
     tie.close
-    (tie.spec enum_told enum-known-cell float-to-bits-little-endian little-endian-requires returns returns-2)
+    (tie.spec enum_told-1 enum_known-cell float_to_bits-x little_endian-requires returns-in-NotHeard returns-in-Share)

@@ -7,17 +7,17 @@ use Rattle.standard.proofs.Shares.{divided}
 use Rattle.grid.proofs.cell_of.Statement.{statement}
 use Rattle.grid.proofs.cell_of.Tie as tie
 
+returns-then-counts-eq0 : tie.Need-returns-then-counts-eq0
+returns-then-counts-eq0 c = search rules
+
+int_to_float-result : tie.Need-int_to_float-result
+int_to_float-result c = search rules
+
+int_to_float-result-2 : tie.Need-int_to_float-result-2
+int_to_float-result-2 c = search rules
+
 returns : tie.Need-returns
-returns c = search rules
-
-int-to-float-t3 : tie.Need-int-to-float-t3
-int-to-float-t3 c = search rules
-
-int-to-float-t4 : tie.Need-int-to-float-t4
-int-to-float-t4 c = search rules
-
-returns-2 : tie.Need-returns-2
-returns-2 c = divided binary32 _ _ (omega arith) (omega arith) (omega arith)
+returns c = divided binary32 _ _ (omega arith) (omega arith) (omega arith)
 
 pub cell_of_spec : {M : Type 1} → statement M
-cell_of_spec = tie.close (tie.spec returns int-to-float-t3 int-to-float-t4 returns-2)
+cell_of_spec = tie.close (tie.spec returns-then-counts-eq0 int_to_float-result int_to_float-result-2 returns)

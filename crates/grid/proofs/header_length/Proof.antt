@@ -7,52 +7,52 @@ use Rattle.grid.specs.Grid.{header_of}
 use Rattle.grid.proofs.header_length.Statement.{statement}
 use Rattle.grid.proofs.header_length.Tie as tie
 
-enum_told : tie.Need-enum-told
-enum_told c = search rules
+enum_told-1 : tie.Need-enum_told-1
+enum_told-1 c = search rules
 
-enum-told-2 : tie.Need-enum-told-2
-enum-told-2 c = search rules
+enum_told-in-Eight : tie.Need-enum_told-in-Eight
+enum_told-in-Eight c = search rules
 
-enum-told-3 : tie.Need-enum-told-3
-enum-told-3 c = search rules
+enum_told-in-Four : tie.Need-enum_told-in-Four
+enum_told-in-Four c = search rules
 
-enum-told-4 : tie.Need-enum-told-4
-enum-told-4 c = search rules
+enum_told-in-Two : tie.Need-enum_told-in-Two
+enum_told-in-Two c = search rules
 
-enum-told-5 : tie.Need-enum-told-5
-enum-told-5 c = search rules
+enum_told-in-One : tie.Need-enum_told-in-One
+enum_told-in-One c = search rules
 
-returns : tie.Need-returns
+returns-in-Sixteen : tie.Need-returns-in-Sixteen
 unfolding header_of characters
-returns c = ap (λ l. length (header_of l)) (sym c.enum_told.given.1)
+returns-in-Sixteen c = ap (λ l. length (header_of l)) (sym c.in-Sixteen.is)
 
-returns-2 : tie.Need-returns-2
+returns-in-Eight : tie.Need-returns-in-Eight
 unfolding header_of characters
-returns-2 c = ap (λ l. length (header_of l)) (sym c.enum-told2.given.1)
+returns-in-Eight c = ap (λ l. length (header_of l)) (sym c.in-Eight.is)
 
-returns-3 : tie.Need-returns-3
+returns-in-Four : tie.Need-returns-in-Four
 unfolding header_of characters
-returns-3 c = ap (λ l. length (header_of l)) (sym c.enum-told3.given.1)
+returns-in-Four c = ap (λ l. length (header_of l)) (sym c.in-Four.is)
 
-returns-4 : tie.Need-returns-4
+returns-in-Two : tie.Need-returns-in-Two
 unfolding header_of characters
-returns-4 c = ap (λ l. length (header_of l)) (sym c.enum-told4.given.1)
+returns-in-Two c = ap (λ l. length (header_of l)) (sym c.in-Two.is)
 
-returns-5 : tie.Need-returns-5
+returns-in-One : tie.Need-returns-in-One
 unfolding header_of characters
-returns-5 c = ap (λ l. length (header_of l)) (sym c.enum-told5.given.1)
+returns-in-One c = ap (λ l. length (header_of l)) (sym c.in-One.is)
 
 pub header_length_spec : {M : Type 1} → statement M
 header_length_spec =
     tie.close
     (tie.spec
-    enum_told
-    enum-told-2
-    enum-told-3
-    enum-told-4
-    enum-told-5
-    returns
-    returns-2
-    returns-3
-    returns-4
-    returns-5)
+    enum_told-1
+    enum_told-in-Eight
+    enum_told-in-Four
+    enum_told-in-Two
+    enum_told-in-One
+    returns-in-Sixteen
+    returns-in-Eight
+    returns-in-Four
+    returns-in-Two
+    returns-in-One)

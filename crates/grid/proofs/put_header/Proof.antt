@@ -8,38 +8,38 @@ use Rattle.grid.proofs.put_header.Tie as tie
 slice-aggregate-part : tie.Need-slice-aggregate-part
 slice-aggregate-part c = search rules
 
-part-requires : tie.Need-part-requires
-part-requires c κs = search rules
+part-a-requires : tie.Need-part-a-requires
+part-a-requires c κs = search rules
 
-decimal-requires : tie.Need-decimal-requires
-decimal-requires c κs = search rules
+decimal-b-requires : tie.Need-decimal-b-requires
+decimal-b-requires c κs = search rules
 
 slice-aggregate-part-2 : tie.Need-slice-aggregate-part-2
 slice-aggregate-part-2 c = search rules
 
-part-requires-2 : tie.Need-part-requires-2
-part-requires-2 c κs = search rules
+part-c-requires : tie.Need-part-c-requires
+part-c-requires c κs = search rules
 
-decimal-requires-2 : tie.Need-decimal-requires-2
-decimal-requires-2 c κs = search rules
+decimal-d-requires : tie.Need-decimal-d-requires
+decimal-d-requires c κs = search rules
 
 slice-aggregate-part-3 : tie.Need-slice-aggregate-part-3
 slice-aggregate-part-3 c = search rules
 
-part-requires-3 : tie.Need-part-requires-3
-part-requires-3 c κs = search rules
+part-e-requires : tie.Need-part-e-requires
+part-e-requires c κs = search rules
 
-decimal-requires-3 : tie.Need-decimal-requires-3
-decimal-requires-3 c κs = search rules
+decimal-f-requires : tie.Need-decimal-f-requires
+decimal-f-requires c κs = search rules
 
 slice-aggregate-part-4 : tie.Need-slice-aggregate-part-4
 slice-aggregate-part-4 c = search rules
 
-part-requires-4 : tie.Need-part-requires-4
-part-requires-4 c κs = search rules
+part-requires : tie.Need-part-requires
+part-requires c κs = search rules
 
-same_length : tie.Need-same-length
-same_length c = search rules
+shape_of-header : tie.Need-shape_of-header
+shape_of-header c = search rules
 
 returns : tie.Need-returns
 unfolding characters
@@ -52,27 +52,27 @@ returns c =
     let a = b.before.before.before.before.before in
     let first = a.before.before.before.before in
     let call = first.before.before.before.before in
-    put_texts call.args.w call.args.side call.requires first.part.ensures a.decimal.ensures
-    b.part2.ensures
-    d.decimal2.ensures
-    e.part3.ensures
-    f.decimal3.ensures
-    g.part4.ensures
+    put_texts call.args.w call.args.side call.requires first.part-a.ensures a.decimal-b.ensures
+    b.part-c.ensures
+    d.decimal-d.ensures
+    e.part-e.ensures
+    f.decimal-f.ensures
+    g.part.ensures
 
 pub put_header_spec : {M : Type 1} → statement M
 put_header_spec =
     tie.close
     (tie.spec
     slice-aggregate-part
-    part-requires
-    decimal-requires
+    part-a-requires
+    decimal-b-requires
     slice-aggregate-part-2
-    part-requires-2
-    decimal-requires-2
+    part-c-requires
+    decimal-d-requires
     slice-aggregate-part-3
-    part-requires-3
-    decimal-requires-3
+    part-e-requires
+    decimal-f-requires
     slice-aggregate-part-4
-    part-requires-4
-    same_length
+    part-requires
+    shape_of-header
     returns)

@@ -20,16 +20,16 @@ use Rattle.reader.proofs.Functions.CodeLoop.{takes_on}
 use Rattle.reader.proofs.go.Statement.{statement}
 use Rattle.reader.proofs.go.Tie as tie
 
-abbrev invariant-loop : tie.invariant-loop
-invariant-loop escapes count frame₀ bytes mode₀ held₀ i₀ frame mode held i =
+abbrev invariant-loop-i : tie.invariant-loop-i
+invariant-loop-i escapes count frame₀ bytes mode₀ held₀ i₀ frame mode held i =
     SoFar (record { mode = mode₀; held = held₀; bytes = frame₀; escapes = escapes }) bytes i
     (record { mode = mode; held = held; bytes = frame; escapes = escapes })
 
-abbrev decreases-loop : tie.decreases-loop
-decreases-loop escapes count frame₀ bytes mode₀ held₀ i₀ frame mode held i = length bytes - i
+abbrev decreases-loop-i : tie.decreases-loop-i
+decreases-loop-i escapes count frame₀ bytes mode₀ held₀ i₀ frame mode held i = length bytes - i
 
 -- the reader that was handed in, and the reader so far
-abbrev given : tie.Start invariant-loop decreases-loop → Reader
+abbrev given : tie.Start invariant-loop-i decreases-loop-i → Reader
 given s = record {
   mode = s.args.from;
   held = s.args.count;
@@ -37,240 +37,240 @@ given s = record {
   escapes = s.args.escapes;
 }
 
-abbrev start : tie.At-loop invariant-loop decreases-loop → tie.Start invariant-loop decreases-loop
+abbrev start : tie.At-loop-i invariant-loop-i decreases-loop-i → tie.Start invariant-loop-i decreases-loop-i
 start c = c.before.before.before.before
 
-abbrev current : tie.At-loop invariant-loop decreases-loop → Reader
+abbrev current : tie.At-loop-i invariant-loop-i decreases-loop-i → Reader
 current c = record {
-  mode = c.loop.mode;
-  held = c.loop.held;
-  bytes = c.loop.frame;
+  mode = c.loop-i.mode;
+  held = c.loop-i.held;
+  bytes = c.loop-i.frame-1;
   escapes = (start c).args.escapes;
 }
 
-held_there : (c : tie.At-loop invariant-loop decreases-loop) → c.loop.held ≤ length c.loop.frame
+held_there : (c : tie.At-loop-i invariant-loop-i decreases-loop-i) → c.loop-i.held ≤ length c.loop-i.frame-1
 unfolding Whole
-held_there c = omega (arith, sound_held (current c) c.loop.invariant.sound, c.loop.invariant.size)
+held_there c = omega (arith, sound_held (current c) c.loop-i.invariant.sound, c.loop-i.invariant.size)
 
 -- a turn of the loop, once it is decided
-abbrev in_loop : tie.After-decide invariant-loop decreases-loop → tie.In-loop invariant-loop decreases-loop
+abbrev in_loop : tie.After-decide-decision invariant-loop-i decreases-loop-i → tie.In-loop-i invariant-loop-i decreases-loop-i
 in_loop c = c.before.before.before
 
-abbrev loop_of : tie.After-decide invariant-loop decreases-loop → tie.At-loop invariant-loop decreases-loop
+abbrev loop_of : tie.After-decide-decision invariant-loop-i decreases-loop-i → tie.At-loop-i invariant-loop-i decreases-loop-i
 loop_of c = (in_loop c).before
 
-turn : (c : tie.After-decide invariant-loop decreases-loop) → let l = loop_of c in
-    Turn (given (start l)) (start l).args.bytes.now l.loop.i (current l) c.decide.result
+turn : (c : tie.After-decide-decision invariant-loop-i decreases-loop-i) → let l = loop_of c in
+    Turn (given (start l)) (start l).args.bytes.now l.loop-i.i (current l) c.decide-decision.result
 turn c =
-    let l = (loop_of c).loop in
+    let l = (loop_of c).loop-i in
     record {
       so_far = l.inv;
-      inside = (in_loop c).loop-test.true;
-      done = c.decide.ensures _ (length-take-le l.held l.frame (held_there (loop_of c)))
-          (first_held l.frame l.held);
+      inside = (in_loop c).loop-i-test.true;
+      done = c.decide-decision.ensures _ (length-take-le l.held l.frame-1 (held_there (loop_of c)))
+          (first_held l.frame-1 l.held);
     }
 
 -- the array, with the byte that was kept
-stored : (c : tie.Joined1 invariant-loop decreases-loop)
-    → c.if1.frame ≡ stored_by c.before.decide.result (current (loop_of c.before))
+stored : (c : tie.Joined-decision invariant-loop-i decreases-loop-i)
+    → c.if-decision.frame-1 ≡ stored_by c.before.decide-decision.result (current (loop_of c.before))
 stored c =
-    let d = c.before.decide.result in
+    let d = c.before.decide-decision.result in
     let now = current (loop_of c.before) in
-    ⊎_elim (λ w. w.1 ∙ stored_kept d now w.0.taken) (λ w. w.1 ∙ stored_same d now w.0.left) c.if1.branch
+    ⊎_elim (λ w. w.frame-is ∙ stored_kept d now w.if-decision.true) (λ w. w.frame-is ∙ stored_same d now w.if-decision.false) c.if-decision.branch-raw
 
 -- its size stays
-sized : (c : tie.Joined1 invariant-loop decreases-loop) → length c.if1.frame ≡ longest + 3
+sized : (c : tie.Joined-decision invariant-loop-i decreases-loop-i) → length c.if-decision.frame-1 ≡ longest + 3
 unfolding Whole
 sized c = ap length (stored c) ∙ whole_after (turn c.before)
 
 -- after a byte that said nothing
-abbrev Quiet : tie.After-enum-told invariant-loop decreases-loop → Type 0
+abbrev Quiet : tie.In-Nothing invariant-loop-i decreases-loop-i → Type 0
 Quiet c =
     let kept = c.before.before in
     let d = kept.before in
     let l = loop_of d in
-    SoFar (given (start l)) (start l).args.bytes.now (l.loop.i + 1)
+    SoFar (given (start l)) (start l).args.bytes.now (l.loop-i.i + 1)
     (record {
-      mode = d.decide.result.mode;
-      held = d.decide.result.held;
-      bytes = kept.if1.frame;
+      mode = d.decide-decision.result.mode;
+      held = d.decide-decision.result.held;
+      bytes = kept.if-decision.frame-1;
       escapes = (start l).args.escapes;
     })
 
-quiet : (c : tie.After-enum-told invariant-loop decreases-loop) → Quiet c
-quiet c = let kept = c.before.before in rw (stored kept) (goes_on (turn kept.before) c.enum_told.given.1)
+quiet : (c : tie.In-Nothing invariant-loop-i decreases-loop-i) → Quiet c
+quiet c = let kept = c.before.before in rw (stored kept) (goes_on (turn kept.before) c.in-Nothing.is)
 
 -- and after the plain bytes that follow it
-abbrev decided : tie.After-take invariant-loop decreases-loop → tie.After-decide invariant-loop decreases-loop
+abbrev decided : tie.After-take-taken invariant-loop-i decreases-loop-i → tie.After-decide-decision invariant-loop-i decreases-loop-i
 decided c = c.before.before.before.before.before.before
 
-abbrev past_plain : tie.After-struct-known invariant-loop decreases-loop → tie.After-take invariant-loop decreases-loop
+abbrev past_plain : tie.After-struct_known-1 invariant-loop-i decreases-loop-i → tie.After-take-taken invariant-loop-i decreases-loop-i
 past_plain c = c.before.before.before
 
-abbrev after : tie.After-take invariant-loop decreases-loop → Reader
+abbrev after : tie.After-take-taken invariant-loop-i decreases-loop-i → Reader
 after c =
-    let d = (decided c).decide.result in
+    let d = (decided c).decide-decision.result in
     record {
       mode = d.mode;
-      held = d.held + c.take.result.count;
-      bytes = c.take.new.1.1.0;
+      held = d.held + c.take-taken.result.count;
+      bytes = c.take-taken.new.1.1.0;
       escapes = (start (loop_of (decided c))).args.escapes;
     }
 
-went : (c : tie.After-take invariant-loop decreases-loop) → let l = loop_of (decided c) in
-    SoFar (given (start l)) (start l).args.bytes.now (l.loop.i + 1 + c.take.result.used) (after c)
+went : (c : tie.After-take-taken invariant-loop-i decreases-loop-i) → let l = loop_of (decided c) in
+    SoFar (given (start l)) (start l).args.bytes.now (l.loop-i.i + 1 + c.take-taken.result.used) (after c)
 went c =
     let q = c.before.before.before in
     let l = loop_of (decided c) in
     let bytes = (start l).args.bytes.now in
-    let at = l.loop.i + 1 in
+    let at = l.loop-i.i + 1 in
     let rest : take (length bytes - at) (drop at bytes) ≡ drop at bytes =
     take_all (length bytes - at) (drop at bytes) (omega (arith, length-drop at bytes)) in
-    takes_on c.take.result _ (quiet q) (rw rest at c.take.ensures)
+    takes_on c.take-taken.result _ (quiet q) (rw rest at c.take-taken.ensures)
 
-skipped-requires : tie.Need-skipped-requires invariant-loop decreases-loop
-skipped-requires c κs = tt
+skipped-i-requires : tie.Need-skipped-i-requires invariant-loop-i decreases-loop-i
+skipped-i-requires c κs = tt
 
-loop-holds : tie.Need-loop-init invariant-loop decreases-loop
-loop-holds c =
-    let s = c.before.before.before in skipped_on (given s) s.args.bytes.now c.skipped.result s.requires.0
-    s.requires.1 c.skipped.ensures
+loop-i-init : tie.Need-loop-i-init invariant-loop-i decreases-loop-i
+loop-i-init c =
+    let s = c.before.before.before in skipped_on (given s) s.args.bytes.now c.skipped-i.result s.requires.0
+    s.requires.1 c.skipped-i.ensures
 
-slice-read-decide : tie.Need-slice-read-decide invariant-loop decreases-loop
+bounds-frame-0 : tie.Need-bounds-frame-0 invariant-loop-i decreases-loop-i
 unfolding Whole
-slice-read-decide c = omega (arith, c.before.before.loop.invariant.size)
+bounds-frame-0 c = omega (arith, c.before.before.loop-i.invariant.size)
 
-shared-slice-read-decide : tie.Need-shared-slice-read-decide invariant-loop decreases-loop
-shared-slice-read-decide c = search rules
+bounds-bytes-i : tie.Need-bounds-bytes-i invariant-loop-i decreases-loop-i
+bounds-bytes-i c = search rules
 
-decide-requires : tie.Need-decide-requires invariant-loop decreases-loop
-decide-requires c κs =
+decide-decision-requires : tie.Need-decide-decision-requires invariant-loop-i decreases-loop-i
+decide-decision-requires c κs =
     let l = c.before.before.before in
-    (sound_held (current l) l.loop.invariant.sound, (reader_fits (current l) l.loop.invariant.sound).1)
+    (sound_held (current l) l.loop-i.invariant.sound, (reader_fits (current l) l.loop-i.invariant.sound).1)
 
-slice-write-frame : tie.Need-slice-write-frame invariant-loop decreases-loop
+bounds-frame-held : tie.Need-bounds-frame-held invariant-loop-i decreases-loop-i
 unfolding Whole
-slice-write-frame c = room (turn c.before) c.if1.true
+bounds-frame-held c = room (turn c.before) c.if-decision.true
 
-add-i : tie.Need-overflow-add-i invariant-loop decreases-loop
-add-i c =
-    let d = c.before in omega (arith, (in_loop d).loop-test.true, (start (loop_of d)).good)
+overflow_add-i : tie.Need-overflow_add-i invariant-loop-i decreases-loop-i
+overflow_add-i c =
+    let d = c.before in omega (arith, (in_loop d).loop-i-test.true, (start (loop_of d)).good)
 
-enum_told : tie.Need-enum-told invariant-loop decreases-loop
-enum_told c = search rules
+enum_told-1 : tie.Need-enum_told-1 invariant-loop-i decreases-loop-i
+enum_told-1 c = search rules
 
-sub-take : tie.Need-overflow-sub-take invariant-loop decreases-loop
-sub-take c = omega (arith, (quiet c.before).within)
+slice_bounds-take-count : tie.Need-slice_bounds-take-count invariant-loop-i decreases-loop-i
+slice_bounds-take-count c = omega (arith, (quiet c.before).within)
 
-part-take-start : tie.Need-slice-bounds-take-start invariant-loop decreases-loop
-part-take-start c = omega (arith, (quiet c.before).within)
+slice_bounds-take-start : tie.Need-slice_bounds-take-start invariant-loop-i decreases-loop-i
+slice_bounds-take-start c = omega (arith, (quiet c.before).within)
 
-part-take-end : tie.Need-slice-bounds-take-end invariant-loop decreases-loop
-part-take-end c = omega (arith, (quiet c.before).within)
+slice_bounds-take-end : tie.Need-slice_bounds-take-end invariant-loop-i decreases-loop-i
+slice_bounds-take-end c = omega (arith, (quiet c.before).within)
 
-take-requires : tie.Need-take-requires invariant-loop decreases-loop
-take-requires c κs = tt
+take-taken-requires : tie.Need-take-taken-requires invariant-loop-i decreases-loop-i
+take-taken-requires c κs = tt
 
-add-held : tie.Need-overflow-add-held invariant-loop decreases-loop
-add-held c = let t = past_plain c in omega (arith, sound_held (after t) (went t).sound)
+overflow_add-held : tie.Need-overflow_add-held invariant-loop-i decreases-loop-i
+overflow_add-held c = let t = past_plain c in omega (arith, sound_held (after t) (went t).sound)
 
-add-i-2 : tie.Need-overflow-add-i-2 invariant-loop decreases-loop
-add-i-2 c =
+overflow_add-i-in-Nothing : tie.Need-overflow_add-i-in-Nothing invariant-loop-i decreases-loop-i
+overflow_add-i-in-Nothing c =
     let t = past_plain c.before in
     let l = loop_of (decided t) in
     omega (arith, (went t).within, (start l).good)
 
-loop-less : tie.Need-loop-smaller invariant-loop decreases-loop
-loop-less c =
-    let d = decided (past_plain c.before) in omega (arith, (in_loop d).loop-test.taken)
+loop-i-smaller : tie.Need-loop-i-smaller invariant-loop-i decreases-loop-i
+loop-i-smaller c =
+    let d = decided (past_plain c.before) in omega (arith, (in_loop d).loop-i-test.taken)
 
-loop-again : tie.Need-loop-preserved invariant-loop decreases-loop
-loop-again c = went (past_plain c.before)
+loop-i-preserved : tie.Need-loop-i-preserved invariant-loop-i decreases-loop-i
+loop-i-preserved c = went (past_plain c.before)
 
-enum-told-2 : tie.Need-enum-told-2 invariant-loop decreases-loop
-enum-told-2 c = search rules
+enum_told-in-Number : tie.Need-enum_told-in-Number invariant-loop-i decreases-loop-i
+enum_told-in-Number c = search rules
 
-plain-requires : tie.Need-plain-requires invariant-loop decreases-loop
+plain-requires : tie.Need-plain-requires invariant-loop-i decreases-loop-i
 plain-requires c κs = tt
 
-gives-requires : tie.Need-gives-requires invariant-loop decreases-loop
+gives-requires : tie.Need-gives-requires invariant-loop-i decreases-loop-i
 gives-requires c κs = tt
 
-same_length : tie.Need-same-length invariant-loop decreases-loop
-same_length c =
+shape_of-frame-in-Number : tie.Need-shape_of-frame-in-Number invariant-loop-i decreases-loop-i
+shape_of-frame-in-Number c =
     let j = c.before.before.before.before in sized j ∙ sym (start (loop_of j.before)).pre.0
 
-returns : tie.Need-returns invariant-loop decreases-loop
-returns c =
+returns-in-Number : tie.Need-returns-in-Number invariant-loop-i decreases-loop-i
+returns-in-Number c =
     let told = c.before.before in
     let j = told.before.before in
     rw (c.gives.ensures, stored j)
-    (reads_number (turn j.before) told.enum-told2.given.1 c.before.plain.result
+    (reads_number (turn j.before) told.in-Number.is c.before.plain.result
     c.before.plain.ensures)
 
-enum-told-3 : tie.Need-enum-told-3 invariant-loop decreases-loop
-enum-told-3 c = search rules
+enum_told-in-Judgement : tie.Need-enum_told-in-Judgement invariant-loop-i decreases-loop-i
+enum_told-in-Judgement c = search rules
 
-judge-requires : tie.Need-judge-requires invariant-loop decreases-loop
+judge-requires : tie.Need-judge-requires invariant-loop-i decreases-loop-i
 judge-requires c κs = tt
 
-gives-requires-2 : tie.Need-gives-requires-2 invariant-loop decreases-loop
-gives-requires-2 c κs = tt
+gives-requires-in-Judgement : tie.Need-gives-requires-in-Judgement invariant-loop-i decreases-loop-i
+gives-requires-in-Judgement c κs = tt
 
-same-length-2 : tie.Need-same-length-2 invariant-loop decreases-loop
-same-length-2 c =
+shape_of-frame-in-Judgement : tie.Need-shape_of-frame-in-Judgement invariant-loop-i decreases-loop-i
+shape_of-frame-in-Judgement c =
     let j = c.before.before.before.before.before in sized j ∙ sym (start (loop_of j.before)).pre.0
 
-returns-2 : tie.Need-returns-2 invariant-loop decreases-loop
-returns-2 c =
+returns-in-Judgement : tie.Need-returns-in-Judgement invariant-loop-i decreases-loop-i
+returns-in-Judgement c =
     let told = c.before.before.before in
     let j = told.before.before in
     let said = c.before.judge.ensures ∙ ap (λ f. said_of (judged_frame f)) (stored j) in
-    rw (c.gives2.ensures, stored j)
-    (reads_judged (turn j.before) told.enum-told3.given.1 c.before.judge.result said)
+    rw (c.gives-in-Judgement.ensures, stored j)
+    (reads_judged (turn j.before) told.in-Judgement.is c.before.judge.result said)
 
-gives-requires-3 : tie.Need-gives-requires-3 invariant-loop decreases-loop
-gives-requires-3 c κs = tt
+gives-requires-2 : tie.Need-gives-requires-2 invariant-loop-i decreases-loop-i
+gives-requires-2 c κs = tt
 
-same-length-3 : tie.Need-same-length-3 invariant-loop decreases-loop
+shape_of-frame : tie.Need-shape_of-frame invariant-loop-i decreases-loop-i
 unfolding Whole
-same-length-3 c = let l = c.before.before in l.loop.invariant.size ∙ sym (start l).requires.0
+shape_of-frame c = let l = c.before.before in l.loop-i.invariant.size ∙ sym (start l).requires.0
 
-returns-3 : tie.Need-returns-3 invariant-loop decreases-loop
-returns-3 c = rw c.gives3.ensures (reads_all c.before.before.loop.invariant c.before.loop-test.false)
+returns : tie.Need-returns invariant-loop-i decreases-loop-i
+returns c = rw c.gives-2.ensures (reads_all c.before.before.loop-i.invariant c.before.loop-i-test.false)
 
 pub go_spec : {M : Type 1} → statement M
 go_spec =
     tie.close
     (tie.spec
-    invariant-loop
-    decreases-loop
-    skipped-requires
-    loop-holds
-    slice-read-decide
-    shared-slice-read-decide
-    decide-requires
-    slice-write-frame
-    add-i
-    enum_told
-    sub-take
-    part-take-start
-    part-take-end
-    take-requires
-    add-held
-    add-i-2
-    loop-less
-    loop-again
-    enum-told-2
+    invariant-loop-i
+    decreases-loop-i
+    skipped-i-requires
+    loop-i-init
+    bounds-frame-0
+    bounds-bytes-i
+    decide-decision-requires
+    bounds-frame-held
+    overflow_add-i
+    enum_told-1
+    slice_bounds-take-count
+    slice_bounds-take-start
+    slice_bounds-take-end
+    take-taken-requires
+    overflow_add-held
+    overflow_add-i-in-Nothing
+    loop-i-smaller
+    loop-i-preserved
+    enum_told-in-Number
     plain-requires
     gives-requires
-    same_length
-    returns
-    enum-told-3
+    shape_of-frame-in-Number
+    returns-in-Number
+    enum_told-in-Judgement
     judge-requires
+    gives-requires-in-Judgement
+    shape_of-frame-in-Judgement
+    returns-in-Judgement
     gives-requires-2
-    same-length-2
-    returns-2
-    gives-requires-3
-    same-length-3
-    returns-3)
+    shape_of-frame
+    returns)

@@ -10,8 +10,8 @@ use Rattle.reader.proofs.Functions.CodeSteps.{all_held}
 use Rattle.reader.proofs.holds.Statement.{statement}
 use Rattle.reader.proofs.holds.Tie as tie
 
-add-t5 : tie.Need-overflow-add-t5
-add-t5 c = search rules
+overflow_add-result : tie.Need-overflow_add-result
+overflow_add-result c = search rules
 
 returns : tie.Need-returns
 returns c bytes e =
@@ -21,4 +21,4 @@ returns c bytes e =
     record { next = rw all; said = refl; kept = refl; count = rw all (sym more); bound = sym more; idle = (refl, refl) }
 
 pub holds_spec : {M : Type 1} → statement M
-holds_spec = tie.close (tie.spec add-t5 returns)
+holds_spec = tie.close (tie.spec overflow_add-result returns)

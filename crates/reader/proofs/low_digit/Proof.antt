@@ -8,19 +8,19 @@ use Rattle.reader.proofs.low_digit.Tie as tie
 opens-requires : tie.Need-opens-requires
 opens-requires c κs = search rules
 
-returns : tie.Need-returns
-returns c rule bytes e f =
+returns-then-b-eq10 : tie.Need-returns-then-b-eq10
+returns-then-b-eq10 c rule bytes e f =
     let a = c.before.before.args in
-    rw (at_start rule (Digit a.high) bytes a.b c.before.if1.true) (c.opens.ensures bytes)
+    rw (at_start rule (Digit a.high) bytes a.b c.before.if-b-eq10.true) (c.opens.ensures bytes)
 
-digit-requires : tie.Need-digit-requires
-digit-requires c κs = search rules
+digit-d-requires : tie.Need-digit-d-requires
+digit-d-requires c κs = search rules
 
-mul-takes : tie.Need-overflow-mul-takes
-mul-takes c = search rules
+overflow_mul-high : tie.Need-overflow_mul-high
+overflow_mul-high c = search rules
 
-add-takes : tie.Need-overflow-add-takes
-add-takes c = search rules
+overflow_add-high : tie.Need-overflow_add-high
+overflow_add-high c = search rules
 
 takes-requires : tie.Need-takes-requires
 takes-requires c κs = search rules
@@ -28,31 +28,31 @@ takes-requires c κs = search rules
 says-requires : tie.Need-says-requires
 says-requires c κs = search rules
 
-returns-2 : tie.Need-returns-2
-returns-2 c rule bytes e f =
+returns-then-d-lt16 : tie.Need-returns-then-d-lt16
+returns-then-d-lt16 c rule bytes e f =
     let d = c.before.before in
     let a = d.before.before.args in
-    let none = no_start rule (Digit a.high) bytes a.b d.before.if1.false in
-    rw (none, is_digit a.b d.digit.result d.digit.ensures c.before.if2.true)
+    let none = no_start rule (Digit a.high) bytes a.b d.before.if-b-eq10.false in
+    rw (none, is_digit a.b d.digit-d.result d.digit-d.ensures c.before.if-d-lt16.true)
     (c.takes.ensures bytes e f)
 
-returns-3 : tie.Need-returns-3
-returns-3 c rule bytes e f =
+returns-else-d-lt16 : tie.Need-returns-else-d-lt16
+returns-else-d-lt16 c rule bytes e f =
     let d = c.before.before in
     let a = d.before.before.args in
-    let none = no_start rule (Digit a.high) bytes a.b d.before.if1.false in
-    rw (none, is_none a.b d.digit.result d.digit.ensures c.before.if2.false) (c.says.ensures bytes)
+    let none = no_start rule (Digit a.high) bytes a.b d.before.if-b-eq10.false in
+    rw (none, is_none a.b d.digit-d.result d.digit-d.ensures c.before.if-d-lt16.false) (c.says.ensures bytes)
 
 pub low_digit_spec : {M : Type 1} → statement M
 low_digit_spec =
     tie.close
     (tie.spec
     opens-requires
-    returns
-    digit-requires
-    mul-takes
-    add-takes
+    returns-then-b-eq10
+    digit-d-requires
+    overflow_mul-high
+    overflow_add-high
     takes-requires
     says-requires
-    returns-2
-    returns-3)
+    returns-then-d-lt16
+    returns-else-d-lt16)

@@ -7,28 +7,28 @@ use borrow.Author.Rules.{rules}
 use Rattle.reader.proofs.may_follow.Statement.{statement}
 use Rattle.reader.proofs.may_follow.Tie as tie
 
-enum_told : tie.Need-enum-told
-enum_told c = search rules
+enum_told-1 : tie.Need-enum_told-1
+enum_told-1 c = search rules
 
-enum-told-2 : tie.Need-enum-told-2
-enum-told-2 c = search rules
+enum_told-in-Lenient : tie.Need-enum_told-in-Lenient
+enum_told-in-Lenient c = search rules
 
-returns : tie.Need-returns
-returns c =
+returns-then-b-eq94 : tie.Need-returns-then-b-eq94
+returns-then-b-eq94 c =
     let b = c.before.before.before.args.b in
-    rw (c.before.enum_told.given.1, eq-eqb b 0x5E c.if1.true)
+    rw (c.before.in-Strict.is, eq-eqb b 0x5E c.if-b-eq94.true)
 
 last_asked : (t : Bool) → t ≡ (t || false)
 last_asked true = refl
 last_asked false = refl
 
-returns-2 : tie.Need-returns-2
-returns-2 c =
+returns-else-b-eq94 : tie.Need-returns-else-b-eq94
+returns-else-b-eq94 c =
     let b = c.before.before.before.args.b in
-    rw (c.before.enum_told.given.1, ne_eqb b 0x5E c.if1.false) (last_asked (eqb b 0x5D))
+    rw (c.before.in-Strict.is, ne_eqb b 0x5E c.if-b-eq94.false) (last_asked (eqb b 0x5D))
 
-returns-3 : tie.Need-returns-3
-returns-3 c = search rules
+returns-in-Lenient : tie.Need-returns-in-Lenient
+returns-in-Lenient c = search rules
 
 pub may_follow_spec : {M : Type 1} → statement M
-may_follow_spec = tie.close (tie.spec enum_told enum-told-2 returns returns-2 returns-3)
+may_follow_spec = tie.close (tie.spec enum_told-1 enum_told-in-Lenient returns-then-b-eq94 returns-else-b-eq94 returns-in-Lenient)

@@ -3,39 +3,39 @@ use borrow.Author.Rules.{rules}
 use Rattle.reader.proofs.pending_ok.Statement.{statement}
 use Rattle.reader.proofs.pending_ok.Tie as tie
 
-enum_told : tie.Need-enum-told
-enum_told c = search rules
+enum_told-1 : tie.Need-enum_told-1
+enum_told-1 c = search rules
 
-enum-told-2 : tie.Need-enum-told-2
-enum-told-2 c = search rules
+enum_told-in-Open : tie.Need-enum_told-in-Open
+enum_told-in-Open c = search rules
 
-enum-told-3 : tie.Need-enum-told-3
-enum-told-3 c = search rules
+enum_told-in-Escape : tie.Need-enum_told-in-Escape
+enum_told-in-Escape c = search rules
 
-enum-known-mode : tie.Need-enum-known-mode
-enum-known-mode c = search rules
+enum_known-mode : tie.Need-enum_known-mode
+enum_known-mode c = search rules
 
-returns : tie.Need-returns
-returns c = search rules
+returns-in-Skipping : tie.Need-returns-in-Skipping
+returns-in-Skipping c = search rules
 
-returns-2 : tie.Need-returns-2
-returns-2 c = search rules
+returns-in-Open : tie.Need-returns-in-Open
+returns-in-Open c = search rules
 
-returns-3 : tie.Need-returns-3
-returns-3 c = search rules
+returns-in-Escape : tie.Need-returns-in-Escape
+returns-in-Escape c = search rules
 
-returns-4 : tie.Need-returns-4
-returns-4 c = rw c.before.mode.given.1
+returns-in-Digit : tie.Need-returns-in-Digit
+returns-in-Digit c = rw c.before.in-Digit.is
 
 pub pending_ok_spec : {M : Type 1} → statement M
 pending_ok_spec =
     tie.close
     (tie.spec
-    enum_told
-    enum-told-2
-    enum-told-3
-    enum-known-mode
-    returns
-    returns-2
-    returns-3
-    returns-4)
+    enum_told-1
+    enum_told-in-Open
+    enum_told-in-Escape
+    enum_known-mode
+    returns-in-Skipping
+    returns-in-Open
+    returns-in-Escape
+    returns-in-Digit)

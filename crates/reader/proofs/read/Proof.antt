@@ -5,21 +5,21 @@ use Rattle.reader.proofs.State.Arrays.{lent_is_read}
 use Rattle.reader.proofs.read.Statement.{statement}
 use Rattle.reader.proofs.read.Tie as tie
 
-slice-aggregate-scan : tie.Need-slice-aggregate-scan
-slice-aggregate-scan c = search rules
+slice_bounds-scan-end : tie.Need-slice_bounds-scan-end
+slice_bounds-scan-end c = search rules
 
-scan-requires : tie.Need-scan-requires
-scan-requires c κs = search rules
+scan-answer-requires : tie.Need-scan-answer-requires
+scan-answer-requires c κs = search rules
 
 returns : tie.Need-returns
 returns c =
     let s = c.before.before.before.before.before in lent_is_read s.args.reader s.args.bytes.now _ _ _
-    (search rules) c.before.scan.ensures
+    (search rules) c.before.scan-answer.ensures
 
 pub read_spec : {M : Type 1} → statement M
 read_spec =
     tie.close
     (tie.spec
-    slice-aggregate-scan
-    scan-requires
+    slice_bounds-scan-end
+    scan-answer-requires
     returns)

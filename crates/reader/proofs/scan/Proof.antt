@@ -18,7 +18,7 @@ given s = record {
 }
 
 -- the call, from past the test of the array
-abbrev call : tie.Else1 → tie.Start
+abbrev call : tie.Else-frame-ne-MOST → tie.Start
 call c = c.before.before.before
 
 plain-requires : tie.Need-plain-requires
@@ -27,46 +27,46 @@ plain-requires c κs = search rules
 gives-requires : tie.Need-gives-requires
 gives-requires c κs = search rules
 
-returns : tie.Need-returns
-returns c =
+returns-then-frame-ne-MOST : tie.Need-returns-then-frame-ne-MOST
+returns-then-frame-ne-MOST c =
     let s = c.before.before.before.before.before in
     rw c.gives.ensures
-    (lent_other (given s) s.args.bytes.now _ c.before.plain.ensures c.before.before.if1.true)
+    (lent_other (given s) s.args.bytes.now _ c.before.plain.ensures c.before.before.if-frame-ne-MOST.true-raw)
 
-slice-read-sound : tie.Need-slice-read-sound
-slice-read-sound c = omega (arith, c.before.if1.false)
+bounds-frame-0 : tie.Need-bounds-frame-0
+bounds-frame-0 c = omega (arith, c.before.if-frame-ne-MOST.false-raw)
 
 sound-requires : tie.Need-sound-requires
 sound-requires c κs = search rules
 
-plain-requires-2 : tie.Need-plain-requires-2
-plain-requires-2 c κs = search rules
+plain-requires-then-not-sound : tie.Need-plain-requires-then-not-sound
+plain-requires-then-not-sound c κs = search rules
 
-gives-requires-2 : tie.Need-gives-requires-2
-gives-requires-2 c κs = search rules
+gives-requires-then-not-sound : tie.Need-gives-requires-then-not-sound
+gives-requires-then-not-sound c κs = search rules
 
-returns-2 : tie.Need-returns-2
-returns-2 c =
+returns-then-not-sound : tie.Need-returns-then-not-sound
+returns-then-not-sound c =
     let state = c.before.before.before in
     let array = state.before.before in
     let s = call array in
-    let sound = sym state.sound.ensures ∙ not-true _ c.before.before.if2.true in
-    rw c.gives2.ensures
-    (lent_unsound (given s) s.args.bytes.now _ c.before.plain2.ensures array.if1.false sound)
+    let sound = sym state.sound.ensures ∙ not-true _ c.before.before.if-not-sound.true-raw in
+    rw c.gives-then-not-sound.ensures
+    (lent_unsound (given s) s.args.bytes.now _ c.before.plain-then-not-sound.ensures array.if-frame-ne-MOST.false-raw sound)
 
 go-requires : tie.Need-go-requires
 go-requires c κs =
     let array = c.before.before.before.before in
-    (array.if1.false, sym c.before.before.sound.ensures ∙ not-false _ c.before.if2.false)
+    (array.if-frame-ne-MOST.false-raw, sym c.before.before.sound.ensures ∙ not-false _ c.before.if-not-sound.false-raw)
 
-same_length : tie.Need-same-length
-same_length c = search rules
+shape_of-frame : tie.Need-shape_of-frame
+shape_of-frame c = search rules
 
-returns-3 : tie.Need-returns-3
-returns-3 c =
+returns : tie.Need-returns
+returns c =
     let array = c.before.before.before.before.before.before.before in
     let s = call array in
-    lent_reads (given s) s.args.bytes.now _ _ _ array.if1.false c.before.before.go.ensures
+    lent_reads (given s) s.args.bytes.now _ _ _ array.if-frame-ne-MOST.false-raw c.before.before.go.ensures
 
 pub scan_spec : {M : Type 1} → statement M
 scan_spec =
@@ -74,12 +74,12 @@ scan_spec =
     (tie.spec
     plain-requires
     gives-requires
-    returns
-    slice-read-sound
+    returns-then-frame-ne-MOST
+    bounds-frame-0
     sound-requires
-    plain-requires-2
-    gives-requires-2
-    returns-2
+    plain-requires-then-not-sound
+    gives-requires-then-not-sound
+    returns-then-not-sound
     go-requires
-    same_length
-    returns-3)
+    shape_of-frame
+    returns)

@@ -3,49 +3,49 @@ use borrow.Author.Rules.{rules}
 use Rattle.reader.proofs.take.Statement.{statement}
 use Rattle.reader.proofs.take.Tie as tie
 
-enum-known-mode : tie.Need-enum-known-mode
-enum-known-mode c = search rules
+enum_known-mode : tie.Need-enum_known-mode
+enum_known-mode c = search rules
 
-take-plain-requires : tie.Need-take-plain-requires
-take-plain-requires c κs = search rules
+take_plain-requires : tie.Need-take_plain-requires
+take_plain-requires c κs = search rules
 
-enum_told : tie.Need-enum-told
-enum_told c = search rules
+enum_told-1 : tie.Need-enum_told-1
+enum_told-1 c = search rules
 
-enum-told-2 : tie.Need-enum-told-2
-enum-told-2 c = search rules
+enum_told-in-Escape : tie.Need-enum_told-in-Escape
+enum_told-in-Escape c = search rules
 
-enum-told-3 : tie.Need-enum-told-3
-enum-told-3 c = search rules
+enum_told-in-Digit : tie.Need-enum_told-in-Digit
+enum_told-in-Digit c = search rules
 
-same_length : tie.Need-same-length
-same_length c = search rules
+shape_of-frame : tie.Need-shape_of-frame
+shape_of-frame c = search rules
 
-returns : tie.Need-returns
-returns c =
+returns-in-Open : tie.Need-returns-in-Open
+returns-in-Open c =
     let arm = c.before.before.before.before.before in
-    rw arm.mode.given.1 c.before.before.take-plain.ensures
+    rw arm.in-Open.is c.before.before.take_plain.ensures
 
-returns-2 : tie.Need-returns-2
-returns-2 c = rw c.enum_told.given.1 (search rules)
+returns-in-Skipping : tie.Need-returns-in-Skipping
+returns-in-Skipping c = rw c.in-Skipping.is (search rules)
 
-returns-3 : tie.Need-returns-3
-returns-3 c = rw c.enum-told2.given.1 (search rules)
+returns-in-Escape : tie.Need-returns-in-Escape
+returns-in-Escape c = rw c.in-Escape.is (search rules)
 
-returns-4 : tie.Need-returns-4
-returns-4 c = rw c.enum-told3.given.1 (search rules)
+returns-in-Digit : tie.Need-returns-in-Digit
+returns-in-Digit c = rw c.in-Digit.is (search rules)
 
 pub take_spec : {M : Type 1} → statement M
 take_spec =
     tie.close
     (tie.spec
-    enum-known-mode
-    take-plain-requires
-    enum_told
-    enum-told-2
-    enum-told-3
-    same_length
-    returns
-    returns-2
-    returns-3
-    returns-4)
+    enum_known-mode
+    take_plain-requires
+    enum_told-1
+    enum_told-in-Escape
+    enum_told-in-Digit
+    shape_of-frame
+    returns-in-Open
+    returns-in-Skipping
+    returns-in-Escape
+    returns-in-Digit)

@@ -9,86 +9,86 @@ use Rattle.reader.proofs.Functions.CodeSteps.{last_bound}
 use Rattle.reader.proofs.takes.Statement.{statement}
 use Rattle.reader.proofs.takes.Tie as tie
 
-length-ok-requires : tie.Need-length-ok-requires
-length-ok-requires c κs = search rules
+length_ok-requires : tie.Need-length_ok-requires
+length_ok-requires c κs = search rules
 
 holds-requires : tie.Need-holds-requires
 holds-requires c κs = search rules
 
-returns : tie.Need-returns
-returns c bytes e f =
+returns-then-length_ok : tie.Need-returns-then-length_ok
+returns-then-length_ok c bytes e f =
     let first = c.before.before.before in
     let a = first.before.args in
-    rw (takes_length a.framing bytes a.x (e ∙ first.if1.true)
-    (sym c.before.before.length_ok_lem.ensures ∙ c.before.if2.true))
+    rw (takes_length a.framing bytes a.x (e ∙ first.if-held-eq0.true)
+    (sym c.before.before.length_ok.ensures ∙ c.before.if-length_ok.true))
     (c.holds.ensures bytes e)
 
 says-requires : tie.Need-says-requires
 says-requires c κs = search rules
 
-returns-2 : tie.Need-returns-2
-returns-2 c bytes e f =
+returns-then-held-eq0 : tie.Need-returns-then-held-eq0
+returns-then-held-eq0 c bytes e f =
     let first = c.before.before.before in
     let a = first.before.args in
-    rw (takes_none a.framing bytes a.x (e ∙ first.if1.true)
-    (sym c.before.before.length_ok_lem.ensures ∙ c.before.if2.false))
+    rw (takes_none a.framing bytes a.x (e ∙ first.if-held-eq0.true)
+    (sym c.before.before.length_ok.ensures ∙ c.before.if-length_ok.false))
     (c.says.ensures bytes)
 
-enum_told : tie.Need-enum-told
-enum_told c = search rules
+enum_told-1 : tie.Need-enum_told-1
+enum_told-1 c = search rules
 
-add-if3 : tie.Need-overflow-add-if3
-add-if3 c = search rules
+overflow_add-first : tie.Need-overflow_add-first
+overflow_add-first c = search rules
 
-holds-requires-2 : tie.Need-holds-requires-2
-holds-requires-2 c κs = search rules
+holds-requires-then-held-first : tie.Need-holds-requires-then-held-first
+holds-requires-then-held-first c κs = search rules
 
-last-sum-requires : tie.Need-last-sum-requires
-last-sum-requires c κs = search rules
+last_sum-requires : tie.Need-last_sum-requires
+last_sum-requires c κs = search rules
 
-enum-told-2 : tie.Need-enum-told-2
-enum-told-2 c = search rules
+enum_told-in-Ascii : tie.Need-enum_told-in-Ascii
+enum_told-in-Ascii c = search rules
 
-holds-requires-3 : tie.Need-holds-requires-3
-holds-requires-3 c κs = search rules
+holds-requires-in-Ascii : tie.Need-holds-requires-in-Ascii
+holds-requires-in-Ascii c κs = search rules
 
-returns-3 : tie.Need-returns-3
-returns-3 c bytes e f =
+returns-then-held-first : tie.Need-returns-then-held-first
+returns-then-held-first c bytes e f =
     let a = c.before.before.before.before.before.args in
-    let told = c.before.before.enum_told.given.1 in
+    let told = c.before.before.in-Binary.is in
     let some : 0 < length bytes = omega arith in
-    rw (told, takes_more bytes a.first a.x some f (omega arith)) (rw told at (c.holds2.ensures bytes e))
+    rw (told, takes_more bytes a.first a.x some f (omega arith)) (rw told at (c.holds-then-held-first.ensures bytes e))
 
-returns-4 : tie.Need-returns-4
-returns-4 c bytes e f =
+returns-else-held-first : tie.Need-returns-else-held-first
+returns-else-held-first c bytes e f =
     let a = c.before.before.before.before.before.args in
-    let told = c.before.before.enum_told.given.1 in
+    let told = c.before.before.in-Binary.is in
     let some : 0 < length bytes = omega arith in
     let sums : a.first + 2 ≤ length bytes = omega arith in
     rw (told, takes_last bytes a.first a.x some f sums)
-    (c.last_sum_lem.ensures bytes (last_bound bytes a.first a.x some f sums))
+    (c.last_sum.ensures bytes (last_bound bytes a.first a.x some f sums))
 
-returns-5 : tie.Need-returns-5
-returns-5 c bytes e f =
+returns-in-Ascii : tie.Need-returns-in-Ascii
+returns-in-Ascii c bytes e f =
     let call = c.before.before.before.before in
-    let told = c.before.enum-told2.given.1 in
-    rw (told, takes_ascii bytes call.args.x (omega arith)) (rw told at (c.holds3.ensures bytes e))
+    let told = c.before.in-Ascii.is in
+    rw (told, takes_ascii bytes call.args.x (omega arith)) (rw told at (c.holds-in-Ascii.ensures bytes e))
 
 pub takes_spec : {M : Type 1} → statement M
 takes_spec =
     tie.close
     (tie.spec
-    length-ok-requires
+    length_ok-requires
     holds-requires
-    returns
+    returns-then-length_ok
     says-requires
-    returns-2
-    enum_told
-    add-if3
-    holds-requires-2
-    last-sum-requires
-    enum-told-2
-    holds-requires-3
-    returns-3
-    returns-4
-    returns-5)
+    returns-then-held-eq0
+    enum_told-1
+    overflow_add-first
+    holds-requires-then-held-first
+    last_sum-requires
+    enum_told-in-Ascii
+    holds-requires-in-Ascii
+    returns-then-held-first
+    returns-else-held-first
+    returns-in-Ascii)
