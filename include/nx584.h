@@ -4,8 +4,8 @@
  *
  * From a release, x86-64 or 64-bit Arm Linux:
  *
- *     tar xzf pyttelow-0.7-aarch64-linux-gnu.tar.gz
- *     cd pyttelow-0.7-aarch64-linux-gnu
+ *     tar xzf pyttelow-0.6-aarch64-linux-gnu.tar.gz
+ *     cd pyttelow-0.6-aarch64-linux-gnu
  *     cc -std=c11 -O2 -Iinclude examples/host.c lib/libnx584.a -o unit
  *     ./unit --help
  *
@@ -48,7 +48,7 @@ extern "C" {
  * what the numbers below mean. It grows when one of those changes, and only then. A program asks
  * nx584_version() first and stops where it is another number: it was compiled with one version of this
  * file and linked with an archive of another, and no answer would mean what it seems to. */
-#define NX584_VERSION 7
+#define NX584_VERSION 6
 
 /* ---- sizes */
 

@@ -54,7 +54,7 @@ div_values g (fin false m e) (fin false n d) a b h p q =
     (cross (m * up e) (down e) (down d) a b (n * up d) p.1 q.1))
 
 -- of two whole numbers that the format holds exactly
-div_whole : (g : Format) (a b : ℕ) → a ≤ 2 ^ prec g → b ≤ 2 ^ prec g → 0 < b
+pub div_whole : (g : Format) (a b : ℕ) → a ≤ 2 ^ prec g → b ≤ 2 ^ prec g → 0 < b
     → div g (of_int g (pos a)) (of_int g (pos b)) ≡ round g false a b
 unfolding of_int
 div_whole g a b ha hb h =
