@@ -4,12 +4,13 @@ use native.Mathlib.Omega.{arith}
 use mathlib.Core.Path.{◌≡◌, refl, subst}
 use mathlib.Core.Bool.{Bool, true, false}
 use mathlib.Core.List.{List, [], ◌∷◌}
-use lib.ListN.{length, get_or, take}
+use lib.ListN.{length, get_or, take, drop}
 use lib.Seq.{length-take-le}
 use Rattle.standard.specs.Words.{byte}
 use Rattle.standard.specs.Messages.{check_of}
 use Rattle.commands.specs.declared.Slot.{Slot}
-use Rattle.commands.specs.Commands.{longest_command, unused, waiting_in, sound}
+use Rattle.commands.specs.declared.Eight.{Eight}
+use Rattle.commands.specs.Commands.{longest_command, unused, waiting_in, sound, row}
 use Rattle.commands.specs.Places.{moved_to}
 use Rattle.commands.specs.Runs.{Each}
 use Rattle.commands.proofs.Flag.{good_length, holds}
@@ -36,6 +37,10 @@ module _ (s : Slot) (t : List Slot) (e : unused s ≡ false) (h : sound (s ∷ t
 
   pub front_few : s.length ≤ longest_command
   front_few = (holds s here.0.holds).few
+
+-- the front of eight by value has counted five ticks at most
+pub front_early : (q : Eight) → unused q.s0 ≡ false → sound (row q) ≡ true → q.s0.ticks ≤ 5
+front_early q e h = (sound_front q.s0 (drop 1 (row q)) e h).early
 
 -- what the next front must have to go out
 pub record Ready (s : Slot) : Type 0 where

@@ -1,6 +1,6 @@
 -- A COMMAND WITH k AHEAD OF IT HAS ENDED AFTER AT MOST 24 × (k + 1) TICKS, in whatever order other calls come between.
 -- One number falls at every tick and never rises: the ticks that the command can still wait. Assumes nothing.
-use Prim.Native.Nat.{ℕ, ◌+◌, ◌-◌, ◌*◌, ◌≤◌, ◌<◌}
+use Prim.Native.Nat.{ℕ, ◌+◌, ◌*◌, ◌≤◌, ◌<◌}
 use native.Mathlib.Omega.{arith}
 use mathlib.Core.Path.{◌≡◌, refl, ap, ◌∙◌}
 use mathlib.Core.Bool.{Bool, true, false, cond}

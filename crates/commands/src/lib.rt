@@ -216,6 +216,7 @@ fn blank() -> Slot
 
 // What stands in a slot once the front has ended: a used one behind it moves up, and the slot that the
 // last of them leaves is all zero.
+#[tactic(auto, unfolding(crate::specs::Places::moved_to))]
 fn moved_to(s: Slot, behind: Slot) -> Slot
     ensures { result ≡ moved_to s behind }
 {
@@ -330,6 +331,7 @@ pub fn take(q: Eight, message: &[u8]) -> Called
 }
 
 // Half a second passes.
+#[tactic(auto, using(crate::proofs::Held::front_early), unfolding(crate::specs::Commands::tick_of))]
 pub fn tick(q: Eight) -> Called
     ensures { after (answer_of result.answer) (row result.line) ≡ tick_of (row q) }
 {
