@@ -21,7 +21,7 @@ use Rattle.standard.specs.Framing.{start_of, stop_of, stuffed, coding, body_of, 
 use Rattle.standard.specs.Framing.{recovered, only_needed, escapes_needed}
 use Rattle.standard.specs.Judge.{decided, unfinished, handing, judge}
 use Rattle.standard.specs.Stream.{up_to_start, handed_of, stream_needed}
-use Rattle.standard.proofs.Messages.{both_true, good_length}
+use Rattle.standard.proofs.Messages.{good_length}
 use Rattle.standard.proofs.Framings.{Sent, start_escaped, escape_escaped, as_it_is, sent}
 use Rattle.standard.proofs.Framings.{Bytes, bytes_none, bytes_cons, bytes_append, body_bytes, coding_bytes}
 use Rattle.standard.proofs.Framings.{Again, again_none, again_one, pairs_again}
