@@ -1,4 +1,4 @@
--- Answers for `frames::grow`: the length byte decides.
+-- Answers for `frames::grow`: the length byte decides. Assumes nothing.
 use Rattle.std.proofs.Common.{sym, ◌∙◌}
 use Rattle.frames.proofs.Plainly.{run_grows, bad_grows}
 use Rattle.frames.proofs.grow.Goals as goal

@@ -1,4 +1,4 @@
--- Answers for `frames::judge_whole`: the sums first, then the message.
+-- Answers for `frames::judge_whole`: the sums first, then the message. Assumes nothing.
 use Rattle.std.proofs.Common.{◌≡◌, ℕ, ◌+◌, List, cond, eqb, get_or, sym, ap, ◌∙◌, eq-eqb, ne_eqb}
 use Rattle.standard.specs.declared.Said.TheVariants.{Gave}
 use Rattle.frames.specs.Judging.{judged_frame, said_of}

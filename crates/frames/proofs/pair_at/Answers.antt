@@ -1,4 +1,4 @@
--- Answers for `frames::pair_at`: the two characters are looked at together.
+-- Answers for `frames::pair_at`: the two characters are looked at together. Assumes nothing.
 use lib.Bits.{bit_and}
 use Rattle.std.proofs.Common.{◌≡◌, ℕ, zero, suc, ◌+◌, ◌*◌, ◌/◌, ◌%◌, ◌<◌, ◌≤◌, Bool, true, false, ltb, List, [], ◌∷◌, length, get_or, drop, sym, refl, ◌∙◌, arith, ltb-false, ltb-true}
 use Rattle.standard.specs.declared.Framing.TheVariants.{Ascii}
@@ -14,7 +14,8 @@ use Rattle.frames.proofs.pair_at.Goals as goal
 
 -- two characters and what they are worth
 looked : (bytes : List ℕ) (at characters values : ℕ) → Bytes bytes
-    → characters ≡ get_or bytes (at + 1) 0 * 256 + get_or bytes at 0 → values ≡ bit_and (bit_and characters (0x0101 * 15) + bit_and characters (0x0101 * 64) / 64 * 9) (0x0101 * 15)
+    → characters ≡ get_or bytes (at + 1) 0 * 256 + get_or bytes at 0
+    → values ≡ bit_and (bit_and characters (0x0101 * 15) + bit_and characters (0x0101 * 64) / 64 * 9) (0x0101 * 15)
     → Looked (two bytes at []) characters 0x0101 values
 unfolding lanes
 looked bytes at characters values b n w = record {
@@ -46,7 +47,8 @@ pair_none bytes at there not = by_high (ltb (digit_in (get_or bytes at 0)) 16) r
     by_low false e h = pair_low bytes at there (ltb-false (digit_in (get_or bytes (at + 1) 0)) 16 e)
 
     by_high : (t : Bool) → ltb (digit_in (get_or bytes at 0)) 16 ≡ t → Next (plain_of Ascii (drop at bytes)) 256
-    by_high true e = by_low (ltb (digit_in (get_or bytes (at + 1) 0)) 16) refl (ltb-true (digit_in (get_or bytes at 0)) 16 e)
+    by_high true e =
+        by_low (ltb (digit_in (get_or bytes (at + 1) 0)) 16) refl (ltb-true (digit_in (get_or bytes at 0)) 16 e)
     by_high false e = pair_high bytes at there (ltb-false (digit_in (get_or bytes at 0)) 16 e)
 
 pub returns-then-bytes-at-lt2 : goal.returns-then-bytes-at-lt2

@@ -1,4 +1,4 @@
--- Answers for `frames::run`.
+-- Answers for `frames::run`. Assumes nothing.
 use Rattle.std.proofs.Common.{◌+◌, refl, arith}
 use Rattle.standard.proofs.Messages.{length_ok_lem}
 use Rattle.frames.proofs.Plainly.{beyond_few, laid_first, laid_one, taken_laid}
@@ -10,7 +10,7 @@ pub loop-i-init : goal.loop-i-init
 loop-i-init c =
     let a = c.args in
     elim c.match-framing.branch [
-      in-Binary w ↦ (
+      | in-Binary w ↦ (
         omega (arith, w.i-is),
         laid_first a.framing a.bytes.now a.frame.now a.held c.match-framing.i c.match-framing.frame w.frame-is w.i-is,
       )
@@ -25,6 +25,6 @@ loop-i-preserved c =
     let few = (length_ok_lem c.args.first c.requires.0).few in
     let end = beyond_few c.args.framing in (
       omega (arith, c.loop-i-test.true),
-      laid_one c.plain_at-x.result (c.args.held + c.loop-i.i) c.loop-i.invariant.1 c.plain_at-x.ensures c.if-x-gt255.false
-          refl (omega (arith, few, end, c.beyond.ensures, c.loop-i-test.true, c.requires.1.size)),
+      laid_one c.plain_at-x.result (c.args.held + c.loop-i.i) c.loop-i.invariant.1 c.plain_at-x.ensures
+          c.if-x-gt255.false refl (omega (arith, few, end, c.beyond.ensures, c.loop-i-test.true, c.requires.1.size)),
     )

@@ -1,4 +1,5 @@
--- The loop of `frames::run`: so many plain bytes were taken, and they are laid after those that were held.
+-- The loop of `frames::run`: so many plain bytes were taken, and they are laid after those that were held. Assumes
+-- nothing.
 use Rattle.std.proofs.Common.{◌-◌, ◌≤◌}
 use Rattle.frames.proofs.Plainly.{Laid}
 use Rattle.frames.proofs.run.Given as goal

@@ -1,4 +1,4 @@
--- Answers for `frames::standing_at`.
+-- Answers for `frames::standing_at`. Assumes nothing.
 use Rattle.std.proofs.Common.{◌≤◌, sym, ◌∙◌, arith, slice_index}
 use Rattle.frames.proofs.Plainly.{stand_end, stand_one, stand_not}
 use Rattle.frames.proofs.standing_at.Goals as goal
