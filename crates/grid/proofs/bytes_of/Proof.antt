@@ -15,7 +15,7 @@ enum_known-cell c = search rules
 
 float_to_bits-x : tie.Need-float_to_bits-x
 float_to_bits-x c =
-    subst (λ k. T (is_number (cell_number k))) c.before.in-Share.is c.before.before.before.requires
+    subst (λ k. T (is_number (cell_number k))) c.in-Share.is c.requires
 
 little_endian-requires : tie.Need-little_endian-requires
 little_endian-requires c κs = search rules
@@ -25,7 +25,7 @@ returns-in-NotHeard c = search rules
 
 returns-in-Share : tie.Need-returns-in-Share
 returns-in-Share c =
-    c.little_endian.ensures ∙ ap (λ k. bytes_of (cell_number k)) (sym c.before.before.in-Share.is)
+    c.little_endian.ensures ∙ ap (λ k. bytes_of (cell_number k)) (sym c.in-Share.is)
 
 pub bytes_of_spec : {M : Type 1} → statement M
 bytes_of_spec =

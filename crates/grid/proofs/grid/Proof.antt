@@ -5,7 +5,7 @@ use mathlib.Core.Path.{◌≡◌, sym, ap, ◌∙◌, subst}
 use lib.ListN.{length}
 use borrow.Author.Rules.{rules}
 use Rattle.standard.specs.Words.{Put}
-use Rattle.grid.specs.Grid.{wide, header_with, header_of, cells_of, grid_refusal}
+use Rattle.grid.specs.Grid.{header_with, header_of, cells_of, grid_refusal}
 use Rattle.grid.specs.Cells.{cells_at}
 use Rattle.grid.proofs.Rows.{side_wide, wide_some, cells_are}
 use Rattle.grid.proofs.Refused.{Room, taken, refuses, gives}
@@ -26,15 +26,15 @@ says c = c.refusal-number.ensures
 -- past the test nothing is refused
 none : (c : tie.Else-number-ne0)
     → (let a = (call c.before).args in
-    grid_refusal a.table.now a.level a.header-1.now a.cells-1.now ≡ 0)
+    grid_refusal a.table.now a.level a.header.now a.cells.now ≡ 0)
 none c = sym (says c.before) ∙ c.if-number-ne0.false
 
 room : (c : tie.Else-number-ne0)
     → (let a = (call c.before).args in
-    Room a.table.now a.level (length a.header-1.now) (length a.cells-1.now))
+    Room a.table.now a.level (length a.header.now) (length a.cells.now))
 room c =
     let a = (call c.before).args in
-    taken a.table.now a.level a.header-1.now a.cells-1.now (none c)
+    taken a.table.now a.level a.header.now a.cells.now (none c)
 
 -- the level's numbers, from its width as code has it
 wide_is : (c : tie.After-wide-w) → 16 / c.wide-w.result * c.wide-w.result ≡ 16
@@ -58,7 +58,7 @@ refusal-number-requires c κs = search rules
 returns-then-number-ne0 : tie.Need-returns-then-number-ne0
 returns-then-number-ne0 c =
     let a = c.before.before.before.before.before.args in
-    refuses a.table.now a.level a.header-1.now a.cells-1.now c.before.refusal-number.result (says c.before)
+    refuses a.table.now a.level a.header.now a.cells.now c.before.refusal-number.result (says c.before)
     c.if-number-ne0.true
 
 wide-w-requires : tie.Need-wide-w-requires
@@ -91,10 +91,10 @@ returns c =
     let head = put.before.before.before.before in
     let at = head.before.before in
     let a = (call at.before.before).args in
-    gives a.table.now a.level a.header-1.now a.cells-1.now (none at.before)
-    (subst (λ l. Put a.header-1.now 0 l head.put_header.new.0 head.put_header.result) (header_is at)
+    gives a.table.now a.level a.header.now a.cells.now (none at.before)
+    (subst (λ l. Put a.header.now 0 l head.put_header.new.header head.put_header.result) (header_is at)
     head.put_header.ensures)
-    (subst (λ l. Put a.cells-1.now 0 l put.put_cells.new.0 put.put_cells.result) (cells_is at)
+    (subst (λ l. Put a.cells.now 0 l put.put_cells.new.cells put.put_cells.result) (cells_is at)
     put.put_cells.ensures)
 
 pub grid_spec : {M : Type 1} → statement M

@@ -5,17 +5,11 @@ use Rattle.grid.proofs.Headers.{put_texts}
 use Rattle.grid.proofs.put_header.Statement.{statement}
 use Rattle.grid.proofs.put_header.Tie as tie
 
-slice-aggregate-part : tie.Need-slice-aggregate-part
-slice-aggregate-part c = search rules
-
 part-a-requires : tie.Need-part-a-requires
 part-a-requires c κs = search rules
 
 decimal-b-requires : tie.Need-decimal-b-requires
 decimal-b-requires c κs = search rules
-
-slice-aggregate-part-2 : tie.Need-slice-aggregate-part-2
-slice-aggregate-part-2 c = search rules
 
 part-c-requires : tie.Need-part-c-requires
 part-c-requires c κs = search rules
@@ -23,17 +17,11 @@ part-c-requires c κs = search rules
 decimal-d-requires : tie.Need-decimal-d-requires
 decimal-d-requires c κs = search rules
 
-slice-aggregate-part-3 : tie.Need-slice-aggregate-part-3
-slice-aggregate-part-3 c = search rules
-
 part-e-requires : tie.Need-part-e-requires
 part-e-requires c κs = search rules
 
 decimal-f-requires : tie.Need-decimal-f-requires
 decimal-f-requires c κs = search rules
-
-slice-aggregate-part-4 : tie.Need-slice-aggregate-part-4
-slice-aggregate-part-4 c = search rules
 
 part-requires : tie.Need-part-requires
 part-requires c κs = search rules
@@ -63,16 +51,12 @@ pub put_header_spec : {M : Type 1} → statement M
 put_header_spec =
     tie.close
     (tie.spec
-    slice-aggregate-part
     part-a-requires
     decimal-b-requires
-    slice-aggregate-part-2
     part-c-requires
     decimal-d-requires
-    slice-aggregate-part-3
     part-e-requires
     decimal-f-requires
-    slice-aggregate-part-4
     part-requires
     shape_of-header
     returns)

@@ -7,7 +7,7 @@ use lib.ListN.{length}
 use borrow.Author.Rules.{rules}
 use Rattle.standard.specs.Table.{table_bytes}
 use Rattle.standard.proofs.Questions.{asked_whole, whole_asked}
-use Rattle.grid.specs.Grid.{wide, cells_of}
+use Rattle.grid.specs.Grid.{cells_of}
 use Rattle.grid.proofs.Rows.{wide_some, cells_bytes}
 use Rattle.grid.proofs.Refused.{no_table, short_header, short_cells, not_refused}
 use Rattle.grid.proofs.refusal.Statement.{statement}
