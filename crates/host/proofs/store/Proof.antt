@@ -10,35 +10,35 @@ use Rattle.host.proofs.store.Statement.{statement}
 use Rattle.host.proofs.store.Tie as tie
 
 -- the call, from past the test
-abbrev call : tie.Then1 → tie.Start
+abbrev call : tie.Then-verdict-eq0 → tie.Start
 call c = c.before.before.before.before
 
-cast-end : tie.Need-overflow-cast-end
-cast-end c = search rules
+overflow_cast-end : tie.Need-overflow_cast-end
+overflow_cast-end c = search rules
 
-add-end : tie.Need-overflow-add-end
-add-end c = search rules
+overflow_add-end : tie.Need-overflow_add-end
+overflow_add-end c = search rules
 
-sub-store : tie.Need-overflow-sub-store
-sub-store c = search rules
+slice_bounds-store-count : tie.Need-slice_bounds-store-count
+slice_bounds-store-count c = search rules
 
-part-store-start : tie.Need-slice-bounds-store-start
-part-store-start c = search rules
+slice_bounds-store-start : tie.Need-slice_bounds-store-start
+slice_bounds-store-start c = search rules
 
-part-store-end : tie.Need-slice-bounds-store-end
-part-store-end c =
+slice_bounds-store-end : tie.Need-slice_bounds-store-end
+slice_bounds-store-end c =
     let test = c.before.before in
-    omega (arith, (call test).requires test.if1.true)
+    omega (arith, (call test).requires test.if-verdict-eq0.true)
 
 store-requires : tie.Need-store-requires
 store-requires c κs = search rules
 
-same_length : tie.Need-same-length
-same_length c = search rules
+shape_of-table : tie.Need-shape_of-table
+shape_of-table c = search rules
 
-returns : tie.Need-returns
+returns-then-verdict-eq0 : tie.Need-returns-then-verdict-eq0
 unfolding table_after
-returns c =
+returns-then-verdict-eq0 c =
     let put = c.before.before in
     let test = put.before.before.before.before in
     let start = call test in
@@ -46,22 +46,22 @@ returns c =
     let same : v.length + 1 - 1 ≡ v.length = omega arith in
     put.store.ensures
     ∙ ap (λ (n : ℕ). applied_to start.args.table.now (take n (drop 1 start.args.frame.now))) same
-    ∙ sym (rw (eq-eqb _ _ test.if1.true))
+    ∙ sym (rw (eq-eqb _ _ test.if-verdict-eq0.true))
 
-returns-2 : tie.Need-returns-2
+returns-else-verdict-eq0 : tie.Need-returns-else-verdict-eq0
 unfolding table_after
-returns-2 c = rw (ne_eqb _ _ c.if1.false)
+returns-else-verdict-eq0 c = rw (ne_eqb _ _ c.if-verdict-eq0.false)
 
 pub store_spec : {M : Type 1} → statement M
 store_spec =
     tie.close
     (tie.spec
-    cast-end
-    add-end
-    sub-store
-    part-store-start
-    part-store-end
+    overflow_cast-end
+    overflow_add-end
+    slice_bounds-store-count
+    slice_bounds-store-start
+    slice_bounds-store-end
     store-requires
-    same_length
-    returns
-    returns-2)
+    shape_of-table
+    returns-then-verdict-eq0
+    returns-else-verdict-eq0)
