@@ -70,7 +70,7 @@ pub overflow_add-held : goal.overflow_add-held
 overflow_add-held c =
     let t = turn c.loop-i.invariant c.loop-i-test.true c.decide-decision.ensures in
     let w = went t c.in-Nothing.is c.take-taken.result c.take-taken.new.frame c.take-taken.ensures (elim c.if-decision.branch [
-      then-decision w ↦ rw w.if-decision.true w.frame-is
+      | then-decision w ↦ rw w.if-decision.true w.frame-is
       | else-decision w ↦ rw w.if-decision.false w.frame-is
     ]) in
     omega (arith, few w)
@@ -79,7 +79,7 @@ pub overflow_add-i-in-Nothing : goal.overflow_add-i-in-Nothing
 overflow_add-i-in-Nothing c =
     let t = turn c.loop-i.invariant c.loop-i-test.true c.decide-decision.ensures in
     let w = went t c.in-Nothing.is c.take-taken.result c.take-taken.new.frame c.take-taken.ensures (elim c.if-decision.branch [
-      then-decision w ↦ rw w.if-decision.true w.frame-is
+      | then-decision w ↦ rw w.if-decision.true w.frame-is
       | else-decision w ↦ rw w.if-decision.false w.frame-is
     ]) in
     omega (arith, w.within, c.well_formed)
@@ -88,7 +88,7 @@ pub loop-i-preserved : goal.loop-i-preserved
 loop-i-preserved c =
     let t = turn c.loop-i.invariant c.loop-i-test.true c.decide-decision.ensures in
     went t c.in-Nothing.is c.take-taken.result c.take-taken.new.frame c.take-taken.ensures (elim c.if-decision.branch [
-      then-decision w ↦ rw w.if-decision.true w.frame-is
+      | then-decision w ↦ rw w.if-decision.true w.frame-is
       | else-decision w ↦ rw w.if-decision.false w.frame-is
     ])
 
@@ -97,7 +97,7 @@ returns-in-Number c =
     let t = turn c.loop-i.invariant c.loop-i-test.true c.decide-decision.ensures in
     rw c.gives.ensures
     (ended t (reads_number t c.in-Number.is c.plain.result c.plain.ensures) (elim c.if-decision.branch [
-      then-decision w ↦ rw w.if-decision.true w.frame-is
+      | then-decision w ↦ rw w.if-decision.true w.frame-is
       | else-decision w ↦ rw w.if-decision.false w.frame-is
     ]))
 
@@ -106,7 +106,7 @@ returns-in-Judgement c =
     let t = turn c.loop-i.invariant c.loop-i-test.true c.decide-decision.ensures in
     rw c.gives-in-Judgement.ensures
     (judged t c.in-Judgement.is c.judge.ensures (elim c.if-decision.branch [
-      then-decision w ↦ rw w.if-decision.true w.frame-is
+      | then-decision w ↦ rw w.if-decision.true w.frame-is
       | else-decision w ↦ rw w.if-decision.false w.frame-is
     ]))
 
