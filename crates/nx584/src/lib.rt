@@ -315,7 +315,7 @@ fn message_of(length: u8, frame: &[u8]) -> [u8; LONGEST]
 {
     let end = length as usize + 1;
     let mut array = [0u8; LONGEST];
-    bytes::copy(&frame[1..end], &mut array);
+    array[..length as usize].copy_from_slice(&frame[1..end]);
     array
 }
 
@@ -636,7 +636,7 @@ pub extern "C" fn nx584_zone(table: &[u8], zone: u8) -> CZone
     let mut number = 0;
     let part = table::zone_part(table, zone, &mut number);
     let mut bytes = [0u8; 6];
-    bytes::copy(part, &mut bytes);
+    bytes[..part.len()].copy_from_slice(part);
     CZone {
         number: mark.number,
         mark: mark.value,
@@ -653,9 +653,9 @@ pub extern "C" fn nx584_partition(table: &[u8], partition: u8) -> CPartition
     let mut number = 0;
     let part = table::partition_part(table, partition, &mut number);
     let mut record = [0u8; 9];
-    bytes::copy(part, &mut record);
+    record[..part.len()].copy_from_slice(part);
     let mut bytes = [0u8; 7];
-    bytes::copy(&record[1..8], &mut bytes);
+    bytes.copy_from_slice(&record[1..8]);
     CPartition {
         number: number,
         mark: record[0],
@@ -672,9 +672,9 @@ pub extern "C" fn nx584_system(table: &[u8]) -> CSystem
     let mut number = 0;
     let part = table::system_part(table, &mut number);
     let mut record = [0u8; 12];
-    bytes::copy(part, &mut record);
+    record[..part.len()].copy_from_slice(part);
     let mut bytes = [0u8; 11];
-    bytes::copy(&record[1..12], &mut bytes);
+    bytes.copy_from_slice(&record[1..12]);
     CSystem {
         number: number,
         mark: record[0],

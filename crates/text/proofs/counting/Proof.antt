@@ -7,17 +7,17 @@ use Rattle.standard.specs.Report.{most_read}
 use Rattle.text.proofs.counting.Statement.{statement}
 use Rattle.text.proofs.counting.Tie as tie
 
-returns : tie.Need-returns
-returns c = record { within = omega arith; few = omega arith; counted = refl }
+returns-then-capture-gt-MOST_READ : tie.Need-returns-then-capture-gt-MOST_READ
+returns-then-capture-gt-MOST_READ c = record { within = omega arith; few = omega arith; counted = refl }
 
-returns-2 : tie.Need-returns-2
-returns-2 c =
+returns : tie.Need-returns
+returns c =
     let capture = c.before.args.capture.now in
     record {
       within = omega arith;
-      few = c.if1.false;
-      counted = take_all (length capture) capture (omega arith) ∙ sym (take_all most_read capture c.if1.false);
+      few = c.if-capture-gt-MOST_READ.false;
+      counted = take_all (length capture) capture (omega arith) ∙ sym (take_all most_read capture c.if-capture-gt-MOST_READ.false);
     }
 
 pub counting_spec : {M : Type 1} → statement M
-counting_spec = tie.close (tie.spec returns returns-2)
+counting_spec = tie.close (tie.spec returns-then-capture-gt-MOST_READ returns)

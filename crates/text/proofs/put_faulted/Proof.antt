@@ -14,34 +14,34 @@ slice-aggregate-part c = search rules
 part-requires : tie.Need-part-requires
 part-requires c κs = tt
 
-same_length : tie.Need-same-length
-same_length c = search rules
+shape_of-out-then-heard-eq0 : tie.Need-shape_of-out-then-heard-eq0
+shape_of-out-then-heard-eq0 c = search rules
 
-returns : tie.Need-returns
-returns c =
+returns-then-heard-eq0 : tie.Need-returns-then-heard-eq0
+returns-then-heard-eq0 c =
     let o = c.before.before in
     let test = o.before.before.before in
     let start = test.before.before in
-    let none = not_heard start.args.heard start.args.faulted test.if1.true in
+    let none = not_heard start.args.heard start.args.faulted test.if-heard-eq0.true in
     rw none (fits_put o.part.ensures (omega (arith, ap length none, start.requires)))
 
-put-requires : tie.Need-put-requires
-put-requires c κs = search rules
+put-next-requires : tie.Need-put-next-requires
+put-next-requires c κs = search rules
 
 decimal-requires : tie.Need-decimal-requires
 decimal-requires c κs = tt
 
-same-length-2 : tie.Need-same-length-2
-same-length-2 c = search rules
+shape_of-out : tie.Need-shape_of-out
+shape_of-out c = search rules
 
-returns-2 : tie.Need-returns-2
-returns-2 c =
+returns : tie.Need-returns
+returns c =
     let second = c.before.before in
     let first = second.before.before.before.before in
     let test = first.before.before in
     let start = test.before.before in
-    let some = heard_some start.args.heard start.args.faulted test.if1.false in
-    let gap = first.put.ensures in
+    let some = heard_some start.args.heard start.args.faulted test.if-heard-eq0.false in
+    let gap = first.put-next.ensures in
     let number = fits_put second.decimal.ensures (omega (arith, ap length some, start.requires, gap.end)) in
     rw some (put_then gap number)
 
@@ -51,9 +51,9 @@ put_faulted_spec =
     (tie.spec
     slice-aggregate-part
     part-requires
-    same_length
-    returns
-    put-requires
+    shape_of-out-then-heard-eq0
+    returns-then-heard-eq0
+    put-next-requires
     decimal-requires
-    same-length-2
-    returns-2)
+    shape_of-out
+    returns)

@@ -14,53 +14,53 @@ use Rattle.text.proofs.put_group.Tie as tie
 room : (s : tie.Start)
     → let a = s.args in
     let counts = length (decimal a.heard) + length (faulted_text a.heard a.faulted) in
-    a.place + (length (decimal a.group) + counts + 3) ≤ length a.out.now
+    a.place + (length (decimal a.group) + counts + 3) ≤ length a.out-1.now
 room s = omega (arith, counts_length s.args.group s.args.heard s.args.faulted, s.requires)
 
 -- the call, from behind the group's number, and behind each field, from where the next is put
-abbrev call : tie.After-decimal → tie.Start
+abbrev call : tie.After-decimal-a → tie.Start
 call c = c.before.before.before
 
-abbrev at_group : tie.After-put-arg → tie.After-decimal
+abbrev at_group : tie.After-put-arg-1 → tie.After-decimal-a
 at_group c = c.before.before.before
 
-abbrev at_gap : tie.After-decimal-arg2 → tie.After-put
+abbrev at_gap : tie.After-decimal-arg-2-1 → tie.After-put-b
 at_gap c = c.before.before.before
 
-abbrev at_heard : tie.After-put-faulted-arg → tie.After-decimal2
+abbrev at_heard : tie.After-put_faulted-arg-1 → tie.After-decimal-c
 at_heard c = c.before.before.before
 
-abbrev at_faulted : tie.After-put-arg2 → tie.After-put-faulted
+abbrev at_faulted : tie.After-put-arg-2-1 → tie.After-put_faulted-d
 at_faulted c = c.before.before.before
 
 -- the two numbers are put, since there is room
-group : (c : tie.After-decimal)
+group : (c : tie.After-decimal-a)
     → let a = (call c).args in
-    Put a.out.now a.place (decimal a.group) c.decimal.new.0 c.decimal.result
-group c = fits_put c.decimal.ensures (omega (arith, room (call c)))
+    Put a.out-1.now a.place (decimal a.group) c.decimal-a.new.0 c.decimal-a.result
+group c = fits_put c.decimal-a.ensures (omega (arith, room (call c)))
 
-heard : (c : tie.After-decimal2)
+heard : (c : tie.After-decimal-c)
     → let second = at_gap c.before in
     let a = (call (at_group second.before)).args in
-    Put second.put.last.0 second.put.result (decimal a.heard) c.decimal2.new.0 c.decimal2.result
+    Put second.put-b.last.0 second.put-b.result (decimal a.heard) c.decimal-c.new.0 c.decimal-c.result
 heard c =
     let second = at_gap c.before in
     let first = at_group second.before in
-    fits_put c.decimal2.ensures (omega (arith, room (call first), (group first).end, second.put.ensures.end))
+    fits_put c.decimal-c.ensures (omega (arith, room (call first), (group first).end, second.put-b.ensures.end))
 
-decimal-requires : tie.Need-decimal-requires
-decimal-requires c κs = tt
+decimal-a-requires : tie.Need-decimal-a-requires
+decimal-a-requires c κs = tt
 
-put-requires : tie.Need-put-requires
-put-requires c κs =
+put-b-requires : tie.Need-put-b-requires
+put-b-requires c κs =
     let first = at_group c in
     omega (arith, room (call first), (group first).end)
 
-decimal-requires-2 : tie.Need-decimal-requires-2
-decimal-requires-2 c κs = tt
+decimal-c-requires : tie.Need-decimal-c-requires
+decimal-c-requires c κs = tt
 
-put-faulted-requires : tie.Need-put-faulted-requires
-put-faulted-requires c κs =
+put_faulted-d-requires : tie.Need-put_faulted-d-requires
+put_faulted-d-requires c κs =
     let third = at_heard c in
     let second = at_gap third.before in
     let first = at_group second.before in
@@ -68,12 +68,12 @@ put-faulted-requires c κs =
       arith,
       room (call first),
       (group first).end,
-      second.put.ensures.end,
+      second.put-b.ensures.end,
       (heard third).end,
     )
 
-put-requires-2 : tie.Need-put-requires-2
-put-requires-2 c κs =
+put-requires : tie.Need-put-requires
+put-requires c κs =
     let fourth = at_faulted c in
     let third = at_heard fourth.before in
     let second = at_gap third.before in
@@ -82,13 +82,13 @@ put-requires-2 c κs =
       arith,
       room (call first),
       (group first).end,
-      second.put.ensures.end,
+      second.put-b.ensures.end,
       (heard third).end,
-      fourth.put-faulted.ensures.end,
+      fourth.put_faulted-d.ensures.end,
     )
 
-same_length : tie.Need-same-length
-same_length c = search rules
+shape_of-out : tie.Need-shape_of-out
+shape_of-out c = search rules
 
 returns : tie.Need-returns
 returns c =
@@ -97,17 +97,17 @@ returns c =
     let third = at_heard fourth.before in
     let second = at_gap third.before in
     let first = at_group second.before in
-    let counts = put_then (group first) (put_then second.put.ensures (heard third)) in
-    put_then (put_then counts fourth.put-faulted.ensures) fifth.put2.ensures
+    let counts = put_then (group first) (put_then second.put-b.ensures (heard third)) in
+    put_then (put_then counts fourth.put_faulted-d.ensures) fifth.put.ensures
 
 pub put_group_spec : {M : Type 1} → statement M
 put_group_spec =
     tie.close
     (tie.spec
-    decimal-requires
+    decimal-a-requires
+    put-b-requires
+    decimal-c-requires
+    put_faulted-d-requires
     put-requires
-    decimal-requires-2
-    put-faulted-requires
-    put-requires-2
-    same_length
+    shape_of-out
     returns)

@@ -17,124 +17,124 @@ use Rattle.text.proofs.Groups.{first_lines, lines_more, lines_room, line_seen}
 use Rattle.text.proofs.put_groups.Statement.{statement}
 use Rattle.text.proofs.put_groups.Tie as tie
 
-abbrev invariant-loop : tie.invariant-loop
-invariant-loop out₀ from table groups place₀ index₀ out place index =
+abbrev invariant-loop-index : tie.invariant-loop-index
+invariant-loop-index out₀ from table groups place₀ index₀ out place index =
     (index ≤ 16) × Put out₀ from (first_lines (group_line table) index) out place
 
-abbrev decreases-loop : tie.decreases-loop
-decreases-loop out₀ from table groups place₀ index₀ out place index = 16 - index
+abbrev decreases-loop-index : tie.decreases-loop-index
+decreases-loop-index out₀ from table groups place₀ index₀ out place index = 16 - index
 
 -- the table and the group at hand; `no_group` is what an array's element is beyond its end
 abbrev no_group : Group
 no_group = record { heard = 0; faulted = 0; share = IsShare nan }
 
-abbrev viewed : tie.In-loop invariant-loop decreases-loop → tie.After-view invariant-loop decreases-loop
+abbrev viewed : tie.In-loop-index invariant-loop-index decreases-loop-index → tie.After-view-view invariant-loop-index decreases-loop-index
 viewed c = c.before.before.before
 
-abbrev start : tie.In-loop invariant-loop decreases-loop → tie.Start invariant-loop decreases-loop
+abbrev start : tie.In-loop-index invariant-loop-index decreases-loop-index → tie.Start invariant-loop-index decreases-loop-index
 start c = (viewed c).before.before.before
 
-abbrev table_in : tie.In-loop invariant-loop decreases-loop → List ℕ
+abbrev table_in : tie.In-loop-index invariant-loop-index decreases-loop-index → List ℕ
 table_in c = (start c).args.table.now
 
-abbrev group_in : tie.In-loop invariant-loop decreases-loop → Group
-group_in c = get_or (viewed c).view.result.groups c.before.loop.index no_group
+abbrev group_in : tie.In-loop-index invariant-loop-index decreases-loop-index → Group
+group_in c = get_or (viewed c).view-view.result.groups-1 c.before.loop-index.index no_group
 
 -- its counts are the table's
-seen : (c : tie.In-loop invariant-loop decreases-loop)
-    → let k = suc c.before.loop.index in
+seen : (c : tie.In-loop-index invariant-loop-index decreases-loop-index)
+    → let k = suc c.before.loop-index.index in
     group_values (group_in c) ≡ counted (heard_of (table_in c) k) (faulted_of (table_in c) k)
 seen c =
-    let view = (viewed c).view in
-    let index = c.before.loop.index in
-    group_told (table_in c) view.result view.ensures (start c).requires.0 index c.loop-test.true no_group
+    let view = (viewed c).view-view in
+    let index = c.before.loop-index.index in
+    group_told (table_in c) view.result view.ensures (start c).requires.0 index c.loop-index-test.true no_group
 
 -- the turn, once its group is at hand
-abbrev turn : tie.After-struct-known invariant-loop decreases-loop → tie.In-loop invariant-loop decreases-loop
+abbrev turn : tie.After-struct_known-1 invariant-loop-index decreases-loop-index → tie.In-loop-index invariant-loop-index decreases-loop-index
 turn c = c.before.before.before
 
-small : (c : tie.In-loop invariant-loop decreases-loop) → Bounded (group_in c).heard (group_in c).faulted 16
+small : (c : tie.In-loop-index invariant-loop-index decreases-loop-index) → Bounded (group_in c).heard (group_in c).faulted 16
 small c =
-    let b = group_bounded (table_in c) (suc c.before.loop.index) in
+    let b = group_bounded (table_in c) (suc c.before.loop-index.index) in
     let h = ap (λ (x : Counted). x.heard) (seen c) in
     let f = ap (λ (x : Counted). x.faulted) (seen c) in
     record { among = omega arith; few = omega arith }
 
-line : (c : tie.In-loop invariant-loop decreases-loop)
-    → let index = c.before.loop.index in
+line : (c : tie.In-loop-index invariant-loop-index decreases-loop-index)
+    → let index = c.before.loop-index.index in
     counts_line (index + 1) (group_in c).heard (group_in c).faulted ≡ group_line (table_in c) (suc index)
-line c = line_seen (table_in c) c.before.loop.index (group_in c) (seen c)
+line c = line_seen (table_in c) c.before.loop-index.index (group_in c) (seen c)
 
-view-requires : tie.Need-view-requires invariant-loop decreases-loop
-view-requires c κs = tt
+view-view-requires : tie.Need-view-view-requires invariant-loop-index decreases-loop-index
+view-view-requires c κs = tt
 
-loop-holds : tie.Need-loop-init invariant-loop decreases-loop
+loop-index-init : tie.Need-loop-index-init invariant-loop-index decreases-loop-index
 unfolding flat_map up_to
-loop-holds c = (omega arith, put_none _ _)
+loop-index-init c = (omega arith, put_none _ _)
 
-cast-group : tie.Need-overflow-cast-group invariant-loop decreases-loop
-cast-group c = omega arith
+overflow_cast-group : tie.Need-overflow_cast-group invariant-loop-index decreases-loop-index
+overflow_cast-group c = omega arith
 
-mul-group : tie.Need-overflow-mul-group invariant-loop decreases-loop
-mul-group c = omega arith
+offset_bounds-groups-index : tie.Need-offset_bounds-groups-index invariant-loop-index decreases-loop-index
+offset_bounds-groups-index c = omega arith
 
-array-copy-out-group : tie.Need-array-copy-out-group invariant-loop decreases-loop
-array-copy-out-group c = omega arith
+bounds-groups-index : tie.Need-bounds-groups-index invariant-loop-index decreases-loop-index
+bounds-groups-index c = omega arith
 
-add-put-group : tie.Need-overflow-add-put-group invariant-loop decreases-loop
-add-put-group c = omega arith
+overflow_add-index : tie.Need-overflow_add-index invariant-loop-index decreases-loop-index
+overflow_add-index c = omega arith
 
-cast-put-group : tie.Need-overflow-cast-put-group invariant-loop decreases-loop
-cast-put-group c = let b = small (turn c) in omega arith
+overflow_cast-group-in-loop-index : tie.Need-overflow_cast-group-in-loop-index invariant-loop-index decreases-loop-index
+overflow_cast-group-in-loop-index c = let b = small (turn c) in omega arith
 
-cast-put-group-2 : tie.Need-overflow-cast-put-group-2 invariant-loop decreases-loop
-cast-put-group-2 c = let b = small (turn c.before) in omega arith
+overflow_cast-group-in-loop-index-2 : tie.Need-overflow_cast-group-in-loop-index-2 invariant-loop-index decreases-loop-index
+overflow_cast-group-in-loop-index-2 c = let b = small (turn c.before) in omega arith
 
-put-group-requires : tie.Need-put-group-requires invariant-loop decreases-loop
-put-group-requires c κs =
+put_group-place-requires : tie.Need-put_group-place-requires invariant-loop-index decreases-loop-index
+put_group-place-requires c κs =
     let o = turn c.before in
-    let done = o.before.loop.inv.1 in
-    let room = lines_room (group_line (table_in o)) o.before.loop.index o.loop-test.taken in
+    let done = o.before.loop-index.inv.1 in
+    let room = lines_room (group_line (table_in o)) o.before.loop-index.index o.loop-index-test.taken in
     omega (arith, done.end, put_length done, ap length (line o), room, (start o).pre.1)
 
-add-index : tie.Need-overflow-add-index invariant-loop decreases-loop
-add-index c = omega arith
+overflow_add-index-in-loop-index : tie.Need-overflow_add-index-in-loop-index invariant-loop-index decreases-loop-index
+overflow_add-index-in-loop-index c = omega arith
 
-loop-less : tie.Need-loop-smaller invariant-loop decreases-loop
-loop-less c = omega arith
+loop-index-smaller : tie.Need-loop-index-smaller invariant-loop-index decreases-loop-index
+loop-index-smaller c = omega arith
 
-loop-again : tie.Need-loop-preserved invariant-loop decreases-loop
-loop-again c =
+loop-index-preserved : tie.Need-loop-index-preserved invariant-loop-index decreases-loop-index
+loop-index-preserved c =
     let put = c.before.before in
     let o = put.before.before.before.before.before in
-    let whole = put_then o.before.loop.invariant.1 (rw (line o) at put.put-group.ensures) in
-    (omega arith, rw (lines_more (group_line (table_in o)) o.before.loop.index) whole)
+    let whole = put_then o.before.loop-index.invariant.1 (rw (line o) at put.put_group-place.ensures) in
+    (omega arith, rw (lines_more (group_line (table_in o)) o.before.loop-index.index) whole)
 
-same_length : tie.Need-same-length invariant-loop decreases-loop
-same_length c = put_length c.before.loop.invariant.1
+shape_of-out : tie.Need-shape_of-out invariant-loop-index decreases-loop-index
+shape_of-out c = put_length c.before.loop-index.invariant.1
 
-returns : tie.Need-returns invariant-loop decreases-loop
+returns : tie.Need-returns invariant-loop-index decreases-loop-index
 returns c =
-    let last : c.before.loop.index ≡ 16 = omega arith in
-    rw last at c.before.loop.invariant.1
+    let last : c.before.loop-index.index ≡ 16 = omega arith in
+    rw last at c.before.loop-index.invariant.1
 
 pub put_groups_spec : {M : Type 1} → statement M
 put_groups_spec =
     tie.close
     (tie.spec
-    invariant-loop
-    decreases-loop
-    view-requires
-    loop-holds
-    cast-group
-    mul-group
-    array-copy-out-group
-    add-put-group
-    cast-put-group
-    cast-put-group-2
-    put-group-requires
-    add-index
-    loop-less
-    loop-again
-    same_length
+    invariant-loop-index
+    decreases-loop-index
+    view-view-requires
+    loop-index-init
+    overflow_cast-group
+    offset_bounds-groups-index
+    bounds-groups-index
+    overflow_add-index
+    overflow_cast-group-in-loop-index
+    overflow_cast-group-in-loop-index-2
+    put_group-place-requires
+    overflow_add-index-in-loop-index
+    loop-index-smaller
+    loop-index-preserved
+    shape_of-out
     returns)

@@ -5,29 +5,29 @@ use Rattle.standard.proofs.Put.{put_then, fits_put}
 use Rattle.text.proofs.put_hex.Statement.{statement}
 use Rattle.text.proofs.put_hex.Tie as tie
 
-two-digits-requires : tie.Need-two-digits-requires
-two-digits-requires c κs = search rules
+two_digits-digits-requires : tie.Need-two_digits-digits-requires
+two_digits-digits-requires c κs = search rules
 
-put-requires : tie.Need-put-requires
-put-requires c κs = search rules
+put-next-requires : tie.Need-put-next-requires
+put-next-requires c κs = search rules
 
-slice-aggregate-part : tie.Need-slice-aggregate-part
-slice-aggregate-part c = search rules
+slice_bounds-part-end : tie.Need-slice_bounds-part-end
+slice_bounds-part-end c = search rules
 
 part-requires : tie.Need-part-requires
 part-requires c κs = tt
 
-same_length : tie.Need-same-length
-same_length c = search rules
+shape_of-out : tie.Need-shape_of-out
+shape_of-out c = search rules
 
 returns : tie.Need-returns
 returns c =
     let second = c.before.before in
     let first = second.before.before.before.before.before in
     let digits = fits_put second.part.ensures (omega arith) in
-    rw (← first.before.before.two_digits.ensures) (put_then first.put.ensures digits)
+    rw (← first.before.before.two_digits-digits.ensures) (put_then first.put-next.ensures digits)
 
 pub put_hex_spec : {M : Type 1} → statement M
 put_hex_spec =
     tie.close
-    (tie.spec two-digits-requires put-requires slice-aggregate-part part-requires same_length returns)
+    (tie.spec two_digits-digits-requires put-next-requires slice_bounds-part-end part-requires shape_of-out returns)

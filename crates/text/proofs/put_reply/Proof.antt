@@ -6,8 +6,8 @@ use Rattle.standard.proofs.Put.{fits_put}
 use Rattle.text.proofs.put_reply.Statement.{statement}
 use Rattle.text.proofs.put_reply.Tie as tie
 
-reply-number-requires : tie.Need-reply-number-requires
-reply-number-requires c κs = search rules
+reply_number-number-requires : tie.Need-reply_number-number-requires
+reply_number-number-requires c κs = search rules
 
 slice-aggregate-part : tie.Need-slice-aggregate-part
 slice-aggregate-part c = search rules
@@ -15,37 +15,37 @@ slice-aggregate-part c = search rules
 part-requires : tie.Need-part-requires
 part-requires c κs = tt
 
-same_length : tie.Need-same-length
-same_length c = search rules
+shape_of-out-then-number-eq0 : tie.Need-shape_of-out-then-number-eq0
+shape_of-out-then-number-eq0 c = search rules
+
+returns-then-number-eq0 : tie.Need-returns-then-number-eq0
+returns-then-number-eq0 c =
+    let o = c.before.before in
+    let test = o.before.before.before in
+    rw (← test.before.reply_number-number.ensures, eq-eqb _ _ test.if-number-eq0.true)
+    (fits_put o.part.ensures (omega arith))
+
+put_hex-requires : tie.Need-put_hex-requires
+put_hex-requires c κs = search rules
+
+shape_of-out : tie.Need-shape_of-out
+shape_of-out c = search rules
 
 returns : tie.Need-returns
 returns c =
     let o = c.before.before in
-    let test = o.before.before.before in
-    rw (← test.before.reply-number.ensures, eq-eqb _ _ test.if1.true)
-    (fits_put o.part.ensures (omega arith))
-
-put-hex-requires : tie.Need-put-hex-requires
-put-hex-requires c κs = search rules
-
-same-length-2 : tie.Need-same-length-2
-same-length-2 c = search rules
-
-returns-2 : tie.Need-returns-2
-returns-2 c =
-    let o = c.before.before in
     let test = o.before.before in
-    rw (← test.before.reply-number.ensures, ne_eqb _ _ test.if1.false) o.put-hex.ensures
+    rw (← test.before.reply_number-number.ensures, ne_eqb _ _ test.if-number-eq0.false) o.put_hex.ensures
 
 pub put_reply_spec : {M : Type 1} → statement M
 put_reply_spec =
     tie.close
     (tie.spec
-    reply-number-requires
+    reply_number-number-requires
     slice-aggregate-part
     part-requires
-    same_length
-    returns
-    put-hex-requires
-    same-length-2
-    returns-2)
+    shape_of-out-then-number-eq0
+    returns-then-number-eq0
+    put_hex-requires
+    shape_of-out
+    returns)

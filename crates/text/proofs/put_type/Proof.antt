@@ -6,20 +6,20 @@ use Rattle.standard.proofs.Put.{fits_put}
 use Rattle.text.proofs.put_type.Statement.{statement}
 use Rattle.text.proofs.put_type.Tie as tie
 
-carries-type-requires : tie.Need-carries-type-requires
-carries-type-requires c κs = search rules
+carries_type-requires : tie.Need-carries_type-requires
+carries_type-requires c κs = search rules
 
-put-hex-requires : tie.Need-put-hex-requires
-put-hex-requires c κs = search rules
+put_hex-requires : tie.Need-put_hex-requires
+put_hex-requires c κs = search rules
 
-same_length : tie.Need-same-length
-same_length c = search rules
+shape_of-out-then-carries_type : tie.Need-shape_of-out-then-carries_type
+shape_of-out-then-carries_type c = search rules
 
-returns : tie.Need-returns
-returns c =
+returns-then-carries_type : tie.Need-returns-then-carries_type
+returns-then-carries_type c =
     let o = c.before.before in
     let test = o.before.before.before in
-    rw (sym test.before.carries-type.ensures ∙ test.if1.true) o.put-hex.ensures
+    rw (sym test.before.carries_type.ensures ∙ test.if-carries_type.true) o.put_hex.ensures
 
 slice-aggregate-part : tie.Need-slice-aggregate-part
 slice-aggregate-part c = search rules
@@ -27,24 +27,24 @@ slice-aggregate-part c = search rules
 part-requires : tie.Need-part-requires
 part-requires c κs = tt
 
-same-length-2 : tie.Need-same-length-2
-same-length-2 c = search rules
+shape_of-out : tie.Need-shape_of-out
+shape_of-out c = search rules
 
-returns-2 : tie.Need-returns-2
-returns-2 c =
+returns : tie.Need-returns
+returns c =
     let o = c.before.before in
     let test = o.before.before.before in
-    rw (sym test.before.carries-type.ensures ∙ test.if1.false) (fits_put o.part.ensures (omega arith))
+    rw (sym test.before.carries_type.ensures ∙ test.if-carries_type.false) (fits_put o.part.ensures (omega arith))
 
 pub put_type_spec : {M : Type 1} → statement M
 put_type_spec =
     tie.close
     (tie.spec
-    carries-type-requires
-    put-hex-requires
-    same_length
-    returns
+    carries_type-requires
+    put_hex-requires
+    shape_of-out-then-carries_type
+    returns-then-carries_type
     slice-aggregate-part
     part-requires
-    same-length-2
-    returns-2)
+    shape_of-out
+    returns)

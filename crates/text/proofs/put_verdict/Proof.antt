@@ -17,34 +17,34 @@ room : (s : tie.Start) → s.args.place + (length (decimal s.args.verdict.number
 room s = omega (arith, line_length (handed_with s.args.verdict) (reply_number s.args.reply), s.requires)
 
 -- the call, from behind the number, and behind each field, from where the next is put
-abbrev call : tie.After-decimal → tie.Start
+abbrev call : tie.After-decimal-a → tie.Start
 call c = c.before.before.before
 
-abbrev at_number : tie.After-put-type-arg → tie.After-decimal
+abbrev at_number : tie.After-put_type-arg-1 → tie.After-decimal-a
 at_number c = c.before.before.before
 
-abbrev at_type : tie.After-put-reply-arg → tie.After-put-type
+abbrev at_type : tie.After-put_reply-arg-1 → tie.After-put_type-b
 at_type c = c.before.before.before
 
-abbrev at_reply : tie.After-put-arg → tie.After-put-reply
+abbrev at_reply : tie.After-put-arg-1 → tie.After-put_reply-c
 at_reply c = c.before.before.before
 
 -- the number is put, since there is room
-number : (c : tie.After-decimal)
+number : (c : tie.After-decimal-a)
     → let a = (call c).args in
-    Put a.out.now a.place (decimal a.verdict.number) c.decimal.new.0 c.decimal.result
-number c = fits_put c.decimal.ensures (omega (arith, room (call c)))
+    Put a.out-1.now a.place (decimal a.verdict.number) c.decimal-a.new.0 c.decimal-a.result
+number c = fits_put c.decimal-a.ensures (omega (arith, room (call c)))
 
-decimal-requires : tie.Need-decimal-requires
-decimal-requires c κs = tt
+decimal-a-requires : tie.Need-decimal-a-requires
+decimal-a-requires c κs = tt
 
-put-type-requires : tie.Need-put-type-requires
-put-type-requires c κs =
+put_type-b-requires : tie.Need-put_type-b-requires
+put_type-b-requires c κs =
     let first = at_number c in
     omega (arith, room (call first), (number first).end)
 
-put-reply-requires : tie.Need-put-reply-requires
-put-reply-requires c κs =
+put_reply-c-requires : tie.Need-put_reply-c-requires
+put_reply-c-requires c κs =
     let second = at_type c in
     let first = at_number second.before in
     let start = call first in
@@ -52,7 +52,7 @@ put-reply-requires c κs =
       arith,
       room start,
       (number first).end,
-      second.put-type.ensures.end,
+      second.put_type-b.ensures.end,
       type_length (handed_with start.args.verdict),
     )
 
@@ -66,14 +66,14 @@ put-requires c κs =
       arith,
       room start,
       (number first).end,
-      second.put-type.ensures.end,
-      third.put-reply.ensures.end,
+      second.put_type-b.ensures.end,
+      third.put_reply-c.ensures.end,
       type_length (handed_with start.args.verdict),
       reply_length (reply_number start.args.reply),
     )
 
-same_length : tie.Need-same-length
-same_length c = search rules
+shape_of-out : tie.Need-shape_of-out
+shape_of-out c = search rules
 
 returns : tie.Need-returns
 returns c =
@@ -81,16 +81,16 @@ returns c =
     let third = at_reply fourth.before in
     let second = at_type third.before in
     let first = at_number second.before in
-    let fields = put_then (number first) second.put-type.ensures in
-    put_then (put_then fields third.put-reply.ensures) fourth.put.ensures
+    let fields = put_then (number first) second.put_type-b.ensures in
+    put_then (put_then fields third.put_reply-c.ensures) fourth.put.ensures
 
 pub put_verdict_spec : {M : Type 1} → statement M
 put_verdict_spec =
     tie.close
     (tie.spec
-    decimal-requires
-    put-type-requires
-    put-reply-requires
+    decimal-a-requires
+    put_type-b-requires
+    put_reply-c-requires
     put-requires
-    same_length
+    shape_of-out
     returns)

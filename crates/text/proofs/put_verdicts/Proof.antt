@@ -23,109 +23,109 @@ use Rattle.text.proofs.put_verdicts.Tie as tie
 abbrev reader_of : Mode → ℕ → List ℕ → Reader
 reader_of mode held frame = record { mode = mode; held = held; bytes = frame; escapes = Lenient }
 
-abbrev invariant-loop : tie.invariant-loop
-invariant-loop out₀ table₀ capture mode₀ held₀ frame₀ used₀ place₀ out table mode held frame used place =
+abbrev invariant-loop-used : tie.invariant-loop-used
+invariant-loop-used out₀ table₀ capture mode₀ held₀ frame₀ used₀ place₀ out table mode held frame used place =
     HeardTo capture table₀ used (reader_of mode held frame) table × Put out₀ 0 (lines_of (take used capture)) out place
 
-abbrev decreases-loop : tie.decreases-loop
-decreases-loop out₀ table₀ capture mode₀ held₀ frame₀ used₀ place₀ out table mode held frame used place = length capture - used
+abbrev decreases-loop-used : tie.decreases-loop-used
+decreases-loop-used out₀ table₀ capture mode₀ held₀ frame₀ used₀ place₀ out table mode held frame used place = length capture - used
 
 -- the values at the loop's head, where the call was made, and those at the beginning
-abbrev head : tie.After-listen invariant-loop decreases-loop → tie.At-loop invariant-loop decreases-loop
+abbrev head : tie.After-listen-answer invariant-loop-used decreases-loop-used → tie.At-loop-used invariant-loop-used decreases-loop-used
 head c = c.before.before.before.before.before
 
-abbrev start : tie.At-loop invariant-loop decreases-loop → tie.Start invariant-loop decreases-loop
+abbrev start : tie.At-loop-used invariant-loop-used decreases-loop-used → tie.Start invariant-loop-used decreases-loop-used
 start c = c.before.before.before.before
 
-abbrev listened : tie.After-put-said invariant-loop decreases-loop → tie.After-listen invariant-loop decreases-loop
+abbrev listened : tie.After-put_said-place invariant-loop-used decreases-loop-used → tie.After-listen-answer invariant-loop-used decreases-loop-used
 listened c = c.before.before.before.before.before.before
 
 -- what the call adds
-turned : (c : tie.After-listen invariant-loop decreases-loop)
+turned : (c : tie.After-listen-answer invariant-loop-used decreases-loop-used)
     → let a = (start (head c)).args in
-    let answer = c.listen.result in
-    Turn a.capture.now a.table.now (head c).loop.used
+    let answer = c.listen-answer.result in
+    Turn a.capture.now a.table-1.now (head c).loop-used.used
     answer.said (reply_number answer.reply) answer.used
-    (reader_of answer.mode answer.held c.listen.new.1.1.1.0) c.listen.new.1.1.1.1.0
+    (reader_of answer.mode answer.held c.listen-answer.new.1.1.1.0) c.listen-answer.new.1.1.1.1.0
 turned c =
     let inside = c.before.before.before.before in
-    let loop = (head c).loop in
+    let loop = (head c).loop-used in
     let s = start (head c) in
-    let r = reader_of loop.mode loop.held loop.frame in
-    turn s.args.capture.now s.args.table.now loop.used r loop.table loop.inv.0 s.pre.0
-    inside.loop-test.true c.listen.ensures
+    let r = reader_of loop.mode loop.held loop.frame-1 in
+    turn s.args.capture.now s.args.table.now loop.used r loop.table-1 loop.inv.0 s.pre.0
+    inside.loop-used-test.true c.listen-answer.ensures
 
-loop-holds : tie.Need-loop-init invariant-loop decreases-loop
+loop-used-init : tie.Need-loop-used-init invariant-loop-used decreases-loop-used
 unfolding flat_map
-loop-holds c = (heard_none _ _, put_none _ _)
+loop-used-init c = (heard_none _ _, put_none _ _)
 
-slice-aggregate-listen : tie.Need-slice-aggregate-listen invariant-loop decreases-loop
+slice_bounds-listen-end : tie.Need-slice_bounds-listen-end invariant-loop-used decreases-loop-used
 unfolding Whole
-slice-aggregate-listen c =
+slice_bounds-listen-end c =
     let o = c.before.before in
-    sym (array_whole _ _ o.loop.used o.loop.invariant.0)
+    sym (array_whole _ _ o.loop-used.used o.loop-used.invariant.0)
 
-sub-listen : tie.Need-overflow-sub-listen invariant-loop decreases-loop
-sub-listen c = omega arith
+slice_bounds-listen-count : tie.Need-slice_bounds-listen-count invariant-loop-used decreases-loop-used
+slice_bounds-listen-count c = omega arith
 
-part-listen-start : tie.Need-slice-bounds-listen-start invariant-loop decreases-loop
-part-listen-start c = omega arith
+slice_bounds-listen-start : tie.Need-slice_bounds-listen-start invariant-loop-used decreases-loop-used
+slice_bounds-listen-start c = omega arith
 
-part-listen-end : tie.Need-slice-bounds-listen-end invariant-loop decreases-loop
-part-listen-end c = omega arith
+slice_bounds-listen-end-in-loop-used : tie.Need-slice_bounds-listen-end-in-loop-used invariant-loop-used decreases-loop-used
+slice_bounds-listen-end-in-loop-used c = omega arith
 
-listen-requires : tie.Need-listen-requires invariant-loop decreases-loop
-listen-requires c κs = tt
+listen-answer-requires : tie.Need-listen-answer-requires invariant-loop-used decreases-loop-used
+listen-answer-requires c κs = tt
 
-add-used : tie.Need-overflow-add-used invariant-loop decreases-loop
-add-used c =
+overflow_add-used : tie.Need-overflow_add-used invariant-loop-used decreases-loop-used
+overflow_add-used c =
     let o = c.before.before.before.before in omega (arith, (turned o).on.within, (start (head o)).good)
 
-put-said-requires : tie.Need-put-said-requires invariant-loop decreases-loop
-put-said-requires c κs =
+put_said-place-requires : tie.Need-put_said-place-requires invariant-loop-used decreases-loop-used
+put_said-place-requires c κs =
     let o = c.before.before.before.before.before in
-    let done = (head o).loop.invariant.1 in
+    let done = (head o).loop-used.invariant.1 in
     omega (arith, done.end, put_length done, (turned o).room, (start (head o)).pre.1)
 
-loop-less : tie.Need-loop-smaller invariant-loop decreases-loop
-loop-less c =
+loop-used-smaller : tie.Need-loop-used-smaller invariant-loop-used decreases-loop-used
+loop-used-smaller c =
     let t = turned (listened c.before.before) in
     omega (arith, t.on.within, t.moves)
 
-loop-again : tie.Need-loop-preserved invariant-loop decreases-loop
-loop-again c =
+loop-used-preserved : tie.Need-loop-used-preserved invariant-loop-used decreases-loop-used
+loop-used-preserved c =
     let put = c.before.before in
     let o = listened put in
-    ((turned o).on, rw (turned o).lines (put_then (head o).loop.inv.1 put.put-said.ensures))
+    ((turned o).on, rw (turned o).lines (put_then (head o).loop-used.inv.1 put.put_said-place.ensures))
 
-same_length : tie.Need-same-length invariant-loop decreases-loop
-same_length c = put_length c.before.loop.invariant.1
+shape_of-out : tie.Need-shape_of-out invariant-loop-used decreases-loop-used
+shape_of-out c = put_length c.before.loop-used.invariant.1
 
-same-length-2 : tie.Need-same-length-2 invariant-loop decreases-loop
-same-length-2 c = ap length c.before.loop.invariant.0.table ∙ after_length _ _
+shape_of-table : tie.Need-shape_of-table invariant-loop-used decreases-loop-used
+shape_of-table c = ap length c.before.loop-used.invariant.0.table-1 ∙ after_length _ _
 
-returns : tie.Need-returns invariant-loop decreases-loop
+returns : tie.Need-returns invariant-loop-used decreases-loop-used
 returns c =
     let s = start c.before in
-    let all = take_all c.before.loop.used s.args.capture.now c.loop-test.false in
-    (rw all at c.before.loop.invariant.1, rw all at c.before.loop.invariant.0.table)
+    let all = take_all c.before.loop-used.used s.args.capture.now c.loop-used-test.false in
+    (rw all at c.before.loop-used.invariant.1, rw all at c.before.loop-used.invariant.0.table-1)
 
 pub put_verdicts_spec : {M : Type 1} → statement M
 put_verdicts_spec =
     tie.close
     (tie.spec
-    invariant-loop
-    decreases-loop
-    loop-holds
-    slice-aggregate-listen
-    sub-listen
-    part-listen-start
-    part-listen-end
-    listen-requires
-    add-used
-    put-said-requires
-    loop-less
-    loop-again
-    same_length
-    same-length-2
+    invariant-loop-used
+    decreases-loop-used
+    loop-used-init
+    slice_bounds-listen-end
+    slice_bounds-listen-count
+    slice_bounds-listen-start
+    slice_bounds-listen-end-in-loop-used
+    listen-answer-requires
+    overflow_add-used
+    put_said-place-requires
+    loop-used-smaller
+    loop-used-preserved
+    shape_of-out
+    shape_of-table
     returns)

@@ -9,49 +9,49 @@ use Rattle.text.proofs.Reports.{first_count, refused, answered}
 use Rattle.text.proofs.report.Statement.{statement}
 use Rattle.text.proofs.report.Tie as tie
 
-abbrev start : tie.After-counting → tie.Start
+abbrev start : tie.After-counting-n → tie.Start
 start c = c.before.before.before.before
 
 -- so many bytes are lent
-size : (c : tie.After-counting)
-    → let n = c.counting.result in length (take n (start c).args.capture.now) ≡ n
-size c = length-take-le c.counting.result (start c).args.capture.now c.counting.ensures.within
+size : (c : tie.After-counting-n)
+    → let n = c.counting-n.result in length (take n (start c).args.capture.now) ≡ n
+size c = length-take-le c.counting-n.result (start c).args.capture.now c.counting-n.ensures.within
+
+returns-then-out-lt-LONGEST_REPORT : tie.Need-returns-then-out-lt-LONGEST_REPORT
+returns-then-out-lt-LONGEST_REPORT c =
+    let s = c.before.before.before in
+    refused s.args.capture.now s.args.out.now c.if-out-lt-LONGEST_REPORT.true
+
+counting-n-requires : tie.Need-counting-n-requires
+counting-n-requires c κs = search rules
+
+slice_bounds-put_report-end : tie.Need-slice_bounds-put_report-end
+slice_bounds-put_report-end c = sym (size c.before.before)
+
+put_report-requires : tie.Need-put_report-requires
+put_report-requires c κs =
+    let o = c.before.before in
+    (rw (size o) o.counting-n.ensures.few, o.before.if-out-lt-LONGEST_REPORT.false)
+
+shape_of-out : tie.Need-shape_of-out
+shape_of-out c = search rules
 
 returns : tie.Need-returns
 returns c =
-    let s = c.before.before.before in
-    refused s.args.capture.now s.args.out.now c.if1.true
-
-counting-requires : tie.Need-counting-requires
-counting-requires c κs = search rules
-
-slice-aggregate-put-report : tie.Need-slice-aggregate-put-report
-slice-aggregate-put-report c = sym (size c.before.before)
-
-put-report-requires : tie.Need-put-report-requires
-put-report-requires c κs =
-    let o = c.before.before in
-    (rw (size o) o.counting.ensures.few, o.before.if1.false)
-
-same_length : tie.Need-same-length
-same_length c = search rules
-
-returns-2 : tie.Need-returns-2
-returns-2 c =
     let put = c.before.before in
     let o = put.before.before.before in
     let s = start o in
     let capture = s.args.capture.now in
-    answered capture s.args.out.now _ _ o.before.if1.false
-    (rw (first_count capture o.counting.result o.counting.ensures) at put.put-report.ensures)
+    answered capture s.args.out.now _ _ o.before.if-out-lt-LONGEST_REPORT.false
+    (rw (first_count capture o.counting-n.result o.counting-n.ensures) at put.put_report.ensures)
 
 pub report_spec : {M : Type 1} → statement M
 report_spec =
     tie.close
     (tie.spec
-    returns
-    counting-requires
-    slice-aggregate-put-report
-    put-report-requires
-    same_length
-    returns-2)
+    returns-then-out-lt-LONGEST_REPORT
+    counting-n-requires
+    slice_bounds-put_report-end
+    put_report-requires
+    shape_of-out
+    returns)
