@@ -4,55 +4,55 @@ use Rattle.commands.specs.Commands.{ended_number}
 use Rattle.nx584.proofs.ended_number.Statement.{statement}
 use Rattle.nx584.proofs.ended_number.Tie as tie
 
-enum_told : tie.Need-enum-told
-enum_told c = search rules
+enum_told-1 : tie.Need-enum_told-1
+enum_told-1 c = search rules
 
-enum-told-2 : tie.Need-enum-told-2
-enum-told-2 c = search rules
+enum_told-in-GivenUp : tie.Need-enum_told-in-GivenUp
+enum_told-in-GivenUp c = search rules
 
-enum-told-3 : tie.Need-enum-told-3
-enum-told-3 c = search rules
+enum_told-in-Acknowledged : tie.Need-enum_told-in-Acknowledged
+enum_told-in-Acknowledged c = search rules
 
-enum-told-4 : tie.Need-enum-told-4
-enum-told-4 c = search rules
+enum_told-in-Failed : tie.Need-enum_told-in-Failed
+enum_told-in-Failed c = search rules
 
-enum-told-5 : tie.Need-enum-told-5
-enum-told-5 c = search rules
+enum_told-in-Rejected : tie.Need-enum_told-in-Rejected
+enum_told-in-Rejected c = search rules
 
-enum-told-6 : tie.Need-enum-told-6
-enum-told-6 c = search rules
+enum_told-in-Replied : tie.Need-enum_told-in-Replied
+enum_told-in-Replied c = search rules
 
-returns : tie.Need-returns
-returns c = sym (ap ended_number c.enum_told.given.1)
+returns-in-Not : tie.Need-returns-in-Not
+returns-in-Not c = sym (ap ended_number c.in-Not.is)
 
-returns-2 : tie.Need-returns-2
-returns-2 c = sym (ap ended_number c.enum-told2.given.1)
+returns-in-GivenUp : tie.Need-returns-in-GivenUp
+returns-in-GivenUp c = sym (ap ended_number c.in-GivenUp.is)
 
-returns-3 : tie.Need-returns-3
-returns-3 c = sym (ap ended_number c.enum-told3.given.1)
+returns-in-Acknowledged : tie.Need-returns-in-Acknowledged
+returns-in-Acknowledged c = sym (ap ended_number c.in-Acknowledged.is)
 
-returns-4 : tie.Need-returns-4
-returns-4 c = sym (ap ended_number c.enum-told4.given.1)
+returns-in-Failed : tie.Need-returns-in-Failed
+returns-in-Failed c = sym (ap ended_number c.in-Failed.is)
 
-returns-5 : tie.Need-returns-5
-returns-5 c = sym (ap ended_number c.enum-told5.given.1)
+returns-in-Rejected : tie.Need-returns-in-Rejected
+returns-in-Rejected c = sym (ap ended_number c.in-Rejected.is)
 
-returns-6 : tie.Need-returns-6
-returns-6 c = sym (ap ended_number c.enum-told6.given.1)
+returns-in-Replied : tie.Need-returns-in-Replied
+returns-in-Replied c = sym (ap ended_number c.in-Replied.is)
 
 pub ended_number_spec : {M : Type 1} → statement M
 ended_number_spec =
     tie.close
     (tie.spec
-    enum_told
-    enum-told-2
-    enum-told-3
-    enum-told-4
-    enum-told-5
-    enum-told-6
-    returns
-    returns-2
-    returns-3
-    returns-4
-    returns-5
-    returns-6)
+    enum_told-1
+    enum_told-in-GivenUp
+    enum_told-in-Acknowledged
+    enum_told-in-Failed
+    enum_told-in-Rejected
+    enum_told-in-Replied
+    returns-in-Not
+    returns-in-GivenUp
+    returns-in-Acknowledged
+    returns-in-Failed
+    returns-in-Rejected
+    returns-in-Replied)

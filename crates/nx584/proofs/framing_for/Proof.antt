@@ -2,11 +2,11 @@ use borrow.Author.Tests.{eq-eqb, ne_eqb}
 use Rattle.nx584.proofs.framing_for.Statement.{statement}
 use Rattle.nx584.proofs.framing_for.Tie as tie
 
-returns : tie.Need-returns
-returns c = rw (eq-eqb _ _ c.if1.true)
+returns-then-framing-eq0 : tie.Need-returns-then-framing-eq0
+returns-then-framing-eq0 c = rw (eq-eqb _ _ c.if-framing-eq0.true)
 
-returns-2 : tie.Need-returns-2
-returns-2 c = rw (ne_eqb _ _ c.if1.false)
+returns-else-framing-eq0 : tie.Need-returns-else-framing-eq0
+returns-else-framing-eq0 c = rw (ne_eqb _ _ c.if-framing-eq0.false)
 
 pub framing_for_spec : {M : Type 1} → statement M
-framing_for_spec = tie.close (tie.spec returns returns-2)
+framing_for_spec = tie.close (tie.spec returns-then-framing-eq0 returns-else-framing-eq0)

@@ -4,31 +4,31 @@ use Rattle.nx584.specs.Maps.{level_for}
 use Rattle.nx584.proofs.level_for.Statement.{statement}
 use Rattle.nx584.proofs.level_for.Tie as tie
 
-returns : tie.Need-returns
+returns-in-16 : tie.Need-returns-in-16
 unfolding level_for
-returns c = rw c.match.keys1
+returns-in-16 c = rw c.in-16.is
 
-returns-2 : tie.Need-returns-2
+returns-in-8 : tie.Need-returns-in-8
 unfolding level_for
-returns-2 c = rw c.match.keys2
+returns-in-8 c = rw c.in-8.is
 
-returns-3 : tie.Need-returns-3
+returns-in-4 : tie.Need-returns-in-4
 unfolding level_for
-returns-3 c = rw c.match.keys3
+returns-in-4 c = rw c.in-4.is
 
-returns-4 : tie.Need-returns-4
+returns-in-2 : tie.Need-returns-in-2
 unfolding level_for
-returns-4 c = rw c.match.keys4
+returns-in-2 c = rw c.in-2.is
 
-returns-5 : tie.Need-returns-5
+returns-in-1 : tie.Need-returns-in-1
 unfolding level_for
-returns-5 c = rw c.match.keys5
+returns-in-1 c = rw c.in-1.is
 
-returns-6 : tie.Need-returns-6
+returns-in_default : tie.Need-returns-in_default
 unfolding level_for
-returns-6 c =
+returns-in_default c =
     let w = c.before.args.width in
-    let r = c.match.rest in
+    let r = c.in_default.in_default-own.rest in
     rw (
       ne_eqb w 16 r.0.0.0.0.1,
       ne_eqb w 8 r.0.0.0.1,
@@ -38,4 +38,4 @@ returns-6 c =
     )
 
 pub level_for_spec : {M : Type 1} → statement M
-level_for_spec = tie.close (tie.spec returns returns-2 returns-3 returns-4 returns-5 returns-6)
+level_for_spec = tie.close (tie.spec returns-in-16 returns-in-8 returns-in-4 returns-in-2 returns-in-1 returns-in_default)

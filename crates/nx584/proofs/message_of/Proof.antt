@@ -12,8 +12,8 @@ use Rattle.nx584.proofs.Scans.{before_end}
 use Rattle.nx584.proofs.message_of.Statement.{statement}
 use Rattle.nx584.proofs.message_of.Tie as tie
 
-add-end : tie.Need-overflow-add-end
-add-end c = search rules
+overflow_add-end : tie.Need-overflow_add-end
+overflow_add-end c = search rules
 
 sub-copy : tie.Need-overflow-sub-copy
 sub-copy c = search rules
@@ -44,7 +44,7 @@ pub message_of_spec : {M : Type 1} → statement M
 message_of_spec =
     tie.close
     (tie.spec
-    add-end
+    overflow_add-end
     sub-copy
     part-copy-start
     part-copy-end

@@ -2,17 +2,17 @@ use borrow.Author.Rules.{rules}
 use Rattle.nx584.proofs.numbers.Statement.{statement}
 use Rattle.nx584.proofs.numbers.Tie as tie
 
-enum_told : tie.Need-enum-told
-enum_told c = search rules
+enum_told-1 : tie.Need-enum_told-1
+enum_told-1 c = search rules
 
-enum-known-said : tie.Need-enum-known-said
-enum-known-said c = search rules
+enum_known-said : tie.Need-enum_known-said
+enum_known-said c = search rules
 
-returns : tie.Need-returns
-returns c = rw c.enum_told.given.1
+returns-in-Silent : tie.Need-returns-in-Silent
+returns-in-Silent c = rw c.in-Silent.is
 
-returns-2 : tie.Need-returns-2
-returns-2 c = search rules
+returns-in-Gave : tie.Need-returns-in-Gave
+returns-in-Gave c = search rules
 
 pub numbers_spec : {M : Type 1} → statement M
-numbers_spec = tie.close (tie.spec enum_told enum-known-said returns returns-2)
+numbers_spec = tie.close (tie.spec enum_told-1 enum_known-said returns-in-Silent returns-in-Gave)

@@ -5,14 +5,14 @@ use Rattle.nx584.specs.Boundary.{c_written}
 use Rattle.nx584.proofs.nx584_keep.Statement.{statement}
 use Rattle.nx584.proofs.nx584_keep.Tie as tie
 
-keep-requires : tie.Need-keep-requires
-keep-requires c κs = search rules
+keep-added-requires : tie.Need-keep-added-requires
+keep-added-requires c κs = search rules
 
-same_length : tie.Need-same-length
-same_length c = search rules
+shape_of-log : tie.Need-shape_of-log
+shape_of-log c = search rules
 
 returns : tie.Need-returns
-returns c = let w = c.before.before.keep.ensures in record { says = ap c_written w.says; leaves = w.leaves }
+returns c = let w = c.before.before.keep-added.ensures in record { says = ap c_written w.says; leaves = w.leaves }
 
 pub nx584_keep_spec : {M : Type 1} → statement M
-nx584_keep_spec = tie.close (tie.spec keep-requires same_length returns)
+nx584_keep_spec = tie.close (tie.spec keep-added-requires shape_of-log returns)

@@ -5,14 +5,14 @@ use Rattle.nx584.specs.Boundary.{c_written}
 use Rattle.nx584.proofs.nx584_make_room.Statement.{statement}
 use Rattle.nx584.proofs.nx584_make_room.Tie as tie
 
-make-room-requires : tie.Need-make-room-requires
-make-room-requires c κs = search rules
+make_room-won-requires : tie.Need-make_room-won-requires
+make_room-won-requires c κs = search rules
 
-same_length : tie.Need-same-length
-same_length c = search rules
+shape_of-log : tie.Need-shape_of-log
+shape_of-log c = search rules
 
 returns : tie.Need-returns
-returns c = let w = c.before.before.make-room.ensures in record { says = ap c_written w.says; leaves = w.leaves }
+returns c = let w = c.before.before.make_room-won.ensures in record { says = ap c_written w.says; leaves = w.leaves }
 
 pub nx584_make_room_spec : {M : Type 1} → statement M
-nx584_make_room_spec = tie.close (tie.spec make-room-requires same_length returns)
+nx584_make_room_spec = tie.close (tie.spec make_room-won-requires shape_of-log returns)

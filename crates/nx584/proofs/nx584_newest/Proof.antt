@@ -5,11 +5,11 @@ use Rattle.nx584.specs.Station.{c_found}
 use Rattle.nx584.proofs.nx584_newest.Statement.{statement}
 use Rattle.nx584.proofs.nx584_newest.Tie as tie
 
-find-requires : tie.Need-find-requires
-find-requires c κs = search rules
+find-found-requires : tie.Need-find-found-requires
+find-found-requires c κs = search rules
 
 returns : tie.Need-returns
-returns c = ap c_found c.find.ensures
+returns c = ap c_found c.find-found.ensures
 
 pub nx584_newest_spec : {M : Type 1} → statement M
-nx584_newest_spec = tie.close (tie.spec find-requires returns)
+nx584_newest_spec = tie.close (tie.spec find-found-requires returns)

@@ -11,7 +11,7 @@ use Rattle.nx584.proofs.nx584_partition.Statement.{statement}
 use Rattle.nx584.proofs.nx584_partition.Tie as tie
 
 -- the call, from the part
-abbrev call : tie.After-partition-part → tie.Start
+abbrev call : tie.After-partition_part-part → tie.Start
 call c = c.before.before.before
 
 -- the record's bytes after the first copy
@@ -24,11 +24,11 @@ filled c =
     let args = (call part).args in
     let t = args.table.now in
     let p = args.partition in
-    let given = part.partition-part.ensures.gives in
+    let given = part.partition_part-part.ensures.gives in
     part_copied (partition_refusal t p) 9 (partition_part t p) _ (partition_sized t p) given c.copy.ensures.1
 
-partition-part-requires : tie.Need-partition-part-requires
-partition-part-requires c κs = search rules
+partition_part-part-requires : tie.Need-partition_part-part-requires
+partition_part-part-requires c κs = search rules
 
 slice-aggregate-copy : tie.Need-slice-aggregate-copy
 slice-aggregate-copy c = search rules
@@ -39,7 +39,7 @@ copy-requires c κs =
     let s = call part in
     let t = s.args.table.now in
     let p = s.args.partition in
-    let given = part.partition-part.ensures.gives in
+    let given = part.partition_part-part.ensures.gives in
     part_fits (partition_refusal t p) 9 (partition_part t p) _ (partition_sized t p) given
 
 sub-copy : tie.Need-overflow-sub-copy
@@ -57,11 +57,11 @@ slice-aggregate-copy-2 c = search rules
 copy-requires-2 : tie.Need-copy-requires-2
 copy-requires-2 c κs = search rules
 
-array-read-t21 : tie.Need-array-read-t21
-array-read-t21 c = search rules
+bounds-record-0 : tie.Need-bounds-record-0
+bounds-record-0 c = search rules
 
-array-read-t24 : tie.Need-array-read-t24
-array-read-t24 c = search rules
+bounds-record-8 : tie.Need-bounds-record-8
+bounds-record-8 c = search rules
 
 returns : tie.Need-returns
 returns c =
@@ -73,14 +73,14 @@ returns c =
     let bytes = copied_all (take 7 rest) _ (omega (arith, seven)) c.before.copy2.ensures.1 in
     let part = copy.before.before in
     let args = (call part).args in
-    rw (part.partition-part.ensures.says, bytes, filled copy)
+    rw (part.partition_part-part.ensures.says, bytes, filled copy)
     (partition_told args.table.now args.partition)
 
 pub nx584_partition_spec : {M : Type 1} → statement M
 nx584_partition_spec =
     tie.close
     (tie.spec
-    partition-part-requires
+    partition_part-part-requires
     slice-aggregate-copy
     copy-requires
     sub-copy
@@ -88,6 +88,6 @@ nx584_partition_spec =
     part-copy-end
     slice-aggregate-copy-2
     copy-requires-2
-    array-read-t21
-    array-read-t24
+    bounds-record-0
+    bounds-record-8
     returns)

@@ -11,7 +11,7 @@ use Rattle.nx584.proofs.nx584_system.Statement.{statement}
 use Rattle.nx584.proofs.nx584_system.Tie as tie
 
 -- the call, from the part
-abbrev call : tie.After-system-part → tie.Start
+abbrev call : tie.After-system_part-part → tie.Start
 call c = c.before.before.before
 
 -- the record's bytes after the first copy
@@ -21,11 +21,11 @@ filled : (c : tie.After-copy)
 filled c =
     let part = c.before.before in
     let t = (call part).args.table.now in
-    let given = part.system-part.ensures.gives in
+    let given = part.system_part-part.ensures.gives in
     part_copied (table_refusal t) 12 (system_part t) _ (system_sized t) given c.copy.ensures.1
 
-system-part-requires : tie.Need-system-part-requires
-system-part-requires c κs = search rules
+system_part-part-requires : tie.Need-system_part-part-requires
+system_part-part-requires c κs = search rules
 
 slice-aggregate-copy : tie.Need-slice-aggregate-copy
 slice-aggregate-copy c = search rules
@@ -34,7 +34,7 @@ copy-requires : tie.Need-copy-requires
 copy-requires c κs =
     let part = c.before in
     let t = (call part).args.table.now in
-    part_fits (table_refusal t) 12 (system_part t) _ (system_sized t) part.system-part.ensures.gives
+    part_fits (table_refusal t) 12 (system_part t) _ (system_sized t) part.system_part-part.ensures.gives
 
 sub-copy : tie.Need-overflow-sub-copy
 sub-copy c = search rules
@@ -51,8 +51,8 @@ slice-aggregate-copy-2 c = search rules
 copy-requires-2 : tie.Need-copy-requires-2
 copy-requires-2 c κs = search rules
 
-array-read-t20 : tie.Need-array-read-t20
-array-read-t20 c = search rules
+bounds-record-0 : tie.Need-bounds-record-0
+bounds-record-0 c = search rules
 
 returns : tie.Need-returns
 returns c =
@@ -64,13 +64,13 @@ returns c =
     let bytes = copied_all (take 11 (drop 1 twelve)) _ (rw all (omega (arith, rest))) c.before.copy2.ensures.1
     ∙ all in
     let part = copy.before.before in
-    rw (part.system-part.ensures.says, bytes, filled copy) (system_told (call part).args.table.now)
+    rw (part.system_part-part.ensures.says, bytes, filled copy) (system_told (call part).args.table.now)
 
 pub nx584_system_spec : {M : Type 1} → statement M
 nx584_system_spec =
     tie.close
     (tie.spec
-    system-part-requires
+    system_part-part-requires
     slice-aggregate-copy
     copy-requires
     sub-copy
@@ -78,5 +78,5 @@ nx584_system_spec =
     part-copy-end
     slice-aggregate-copy-2
     copy-requires-2
-    array-read-t20
+    bounds-record-0
     returns)

@@ -4,20 +4,20 @@ use borrow.Author.Rules.{rules}
 use Rattle.nx584.proofs.nx584_write.Statement.{statement}
 use Rattle.nx584.proofs.nx584_write.Tie as tie
 
-framing-for-requires : tie.Need-framing-for-requires
-framing-for-requires c κs = search rules
+framing_for-requires : tie.Need-framing_for-requires
+framing_for-requires c κs = search rules
 
-write-requires : tie.Need-write-requires
-write-requires c κs = search rules
+write-written-requires : tie.Need-write-written-requires
+write-written-requires c κs = search rules
 
-same_length : tie.Need-same-length
-same_length c = search rules
+shape_of-out : tie.Need-shape_of-out
+shape_of-out c = search rules
 
 returns : tie.Need-returns
 returns c =
     let framed = c.before.before.before.before in
-    let w = rw framed.framing-for.ensures at c.before.before.write.ensures in
+    let w = rw framed.framing_for.ensures at c.before.before.write-written.ensures in
     record { says = ap c_written w.says; leaves = w.leaves }
 
 pub nx584_write_spec : {M : Type 1} → statement M
-nx584_write_spec = tie.close (tie.spec framing-for-requires write-requires same_length returns)
+nx584_write_spec = tie.close (tie.spec framing_for-requires write-written-requires shape_of-out returns)

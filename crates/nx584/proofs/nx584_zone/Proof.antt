@@ -4,14 +4,14 @@ use borrow.Author.Rules.{rules}
 use Rattle.nx584.proofs.nx584_zone.Statement.{statement}
 use Rattle.nx584.proofs.nx584_zone.Tie as tie
 
-zone-mark-requires : tie.Need-zone-mark-requires
-zone-mark-requires c κs = search rules
+zone_mark-mark-requires : tie.Need-zone_mark-mark-requires
+zone_mark-mark-requires c κs = search rules
 
-zone-short-requires : tie.Need-zone-short-requires
-zone-short-requires c κs = search rules
+zone_short-flags-requires : tie.Need-zone_short-flags-requires
+zone_short-flags-requires c κs = search rules
 
-zone-part-requires : tie.Need-zone-part-requires
-zone-part-requires c κs = search rules
+zone_part-part-requires : tie.Need-zone_part-part-requires
+zone_part-part-requires c κs = search rules
 
 slice-aggregate-copy : tie.Need-slice-aggregate-copy
 slice-aggregate-copy c = search rules
@@ -22,7 +22,7 @@ copy-requires c κs =
     let s = part.before.before.before.before.before in
     let t = s.args.table.now in
     let zone = s.args.zone in
-    let given = part.zone-part.ensures.gives in
+    let given = part.zone_part-part.ensures.gives in
     part_fits (table_refusal t) 6 (zone_part t zone) _ (zone_sized t zone (search rules)) given
 
 returns : tie.Need-returns
@@ -32,19 +32,19 @@ returns c =
     let s = marks.before.before in
     let t = s.args.table.now in
     let zone = s.args.zone in
-    let mark = marks.zone_mark_lem.ensures in
+    let mark = marks.zone_mark-mark.ensures in
     let sized = zone_sized t zone (search rules) in
-    let given = part.zone-part.ensures.gives in
+    let given = part.zone_part-part.ensures.gives in
     let bytes = part_copied (table_refusal t) 6 (zone_part t zone) _ sized given c.before.copy.ensures.1 in
-    rw (mark.says, mark.gives, part.before.before.zone_short_lem.ensures.gives, bytes)
+    rw (mark.says, mark.gives, part.before.before.zone_short-flags.ensures.gives, bytes)
 
 pub nx584_zone_spec : {M : Type 1} → statement M
 nx584_zone_spec =
     tie.close
     (tie.spec
-    zone-mark-requires
-    zone-short-requires
-    zone-part-requires
+    zone_mark-mark-requires
+    zone_short-flags-requires
+    zone_part-part-requires
     slice-aggregate-copy
     copy-requires
     returns)

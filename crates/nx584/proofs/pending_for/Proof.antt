@@ -3,23 +3,23 @@ use borrow.Author.Rules.{rules}
 use Rattle.nx584.proofs.pending_for.Statement.{statement}
 use Rattle.nx584.proofs.pending_for.Tie as tie
 
-enum_told : tie.Need-enum-told
-enum_told c = search rules
+enum_told-1 : tie.Need-enum_told-1
+enum_told-1 c = search rules
 
-enum-told-2 : tie.Need-enum-told-2
-enum-told-2 c = search rules
+enum_told-in-Ascii : tie.Need-enum_told-in-Ascii
+enum_told-in-Ascii c = search rules
 
-returns : tie.Need-returns
-returns c = rw (c.before.enum_told.given.1, eq-eqb _ _ c.if1.true)
+returns-then-mode-eq2 : tie.Need-returns-then-mode-eq2
+returns-then-mode-eq2 c = rw (c.before.in-Binary.is, eq-eqb _ _ c.if-mode-eq2.true)
 
-returns-2 : tie.Need-returns-2
-returns-2 c = rw (c.before.enum_told.given.1, ne_eqb _ _ c.if1.false)
+returns-else-mode-eq2 : tie.Need-returns-else-mode-eq2
+returns-else-mode-eq2 c = rw (c.before.in-Binary.is, ne_eqb _ _ c.if-mode-eq2.false)
 
-returns-3 : tie.Need-returns-3
-returns-3 c = rw (c.before.enum-told2.given.1, eq-eqb _ _ c.if2.true)
+returns-then-mode-eq3 : tie.Need-returns-then-mode-eq3
+returns-then-mode-eq3 c = rw (c.before.in-Ascii.is, eq-eqb _ _ c.if-mode-eq3.true)
 
-returns-4 : tie.Need-returns-4
-returns-4 c = rw (c.before.enum-told2.given.1, ne_eqb _ _ c.if2.false)
+returns-else-mode-eq3 : tie.Need-returns-else-mode-eq3
+returns-else-mode-eq3 c = rw (c.before.in-Ascii.is, ne_eqb _ _ c.if-mode-eq3.false)
 
 pub pending_for_spec : {M : Type 1} → statement M
-pending_for_spec = tie.close (tie.spec enum_told enum-told-2 returns returns-2 returns-3 returns-4)
+pending_for_spec = tie.close (tie.spec enum_told-1 enum_told-in-Ascii returns-then-mode-eq2 returns-else-mode-eq2 returns-then-mode-eq3 returns-else-mode-eq3)

@@ -3,18 +3,18 @@ use borrow.Author.Rules.{rules}
 use Rattle.nx584.proofs.share_number.Statement.{statement}
 use Rattle.nx584.proofs.share_number.Tie as tie
 
-enum-known-share : tie.Need-enum-known-share
-enum-known-share c = search rules
+enum_known-share : tie.Need-enum_known-share
+enum_known-share c = search rules
 
-enum_told : tie.Need-enum-told
-enum_told c = search rules
+enum_told-1 : tie.Need-enum_told-1
+enum_told-1 c = search rules
 
-returns : tie.Need-returns
-returns c = search rules
+returns-in-Share : tie.Need-returns-in-Share
+returns-in-Share c = search rules
 
-returns-2 : tie.Need-returns-2
+returns-in-NotHeard : tie.Need-returns-in-NotHeard
 unfolding div of_bits
-returns-2 c = rw c.enum_told.given.1
+returns-in-NotHeard c = rw c.in-NotHeard.is
 
 pub share_number_spec : {M : Type 1} → statement M
-share_number_spec = tie.close (tie.spec enum-known-share enum_told returns returns-2)
+share_number_spec = tie.close (tie.spec enum_known-share enum_told-1 returns-in-Share returns-in-NotHeard)

@@ -2,11 +2,11 @@ use borrow.Author.Rules.{rules}
 use Rattle.nx584.proofs.took.Statement.{statement}
 use Rattle.nx584.proofs.took.Tie as tie
 
-reader-in-requires : tie.Need-reader-in-requires
-reader-in-requires c κs = search rules
+reader_in-requires : tie.Need-reader_in-requires
+reader_in-requires c κs = search rules
 
 returns : tie.Need-returns
-returns c = rw c.reader-in.ensures
+returns c = rw c.reader_in.ensures
 
 pub took_spec : {M : Type 1} → statement M
-took_spec = tie.close (tie.spec reader-in-requires returns)
+took_spec = tie.close (tie.spec reader_in-requires returns)
