@@ -1,11 +1,11 @@
 // Reads a binary capture on standard input, at most its first 65,536 bytes, and writes its report.
 #![tactic(auto)]
 
-ghost use Rattle.std.specs.Prelude.{◌≡◌, ◌+◌, ◌≤◌, length, take};
-ghost use Rattle.io.specs.Counts.{IsPrefixLen};
+ghost use Rattle.std.specs.Prelude.{◌≡◌, ◌≤◌, length, take, IfOk};
 ghost use Rattle.standard.specs.Report.{report_of, longest_report};
 
-use libc::{STDIN_FILENO, STDOUT_FILENO};
+use std::io;
+use std::io::Read;
 
 // Room for every report.
 fn room() -> [u8; text::LONGEST_REPORT]
@@ -18,16 +18,31 @@ fn room() -> [u8; text::LONGEST_REPORT]
 fn tell(capture: &[u8], out: &mut [u8]) -> usize
     requires { longest_report ≤ length out.old }
     ensures out_after { take result out.new ≡ report_of capture.now }
-    ensures prefix_len { IsPrefixLen result out.new }
+    ensures prefix_len { result ≤ length out.new }
 {
     let written = text::report(capture, out);
     written.length
 }
 
-fn main() {
-    let mut capture = io::large_buffer();
-    let n = io::read_full(STDIN_FILENO, &mut capture);
+// Reads until the buffer is full or the input ends, and says how many bytes it put at its beginning.
+fn read_full(from: &mut impl Read, out: &mut [u8]) -> io::Result<usize>
+    ensures { IfOk result (λ n. n ≤ length out.new) }
+{
+    let mut done = 0;
+    while done < out.len() {
+        let n = from.read(&mut out[done..])?;
+        if n == 0 {
+            break;
+        }
+        done += n;
+    }
+    Ok(done)
+}
+
+fn main(rt: HostRuntime) -> io::Result<()> {
+    let mut capture = [0; text::MOST_READ];
+    let n = read_full(&mut rt.stdin(), &mut capture)?;
     let mut out = room();
     let k = tell(&capture[..n], &mut out);
-    io::write_all(STDOUT_FILENO, &out[..k]);
+    rt.write_all(&out[..k])
 }
