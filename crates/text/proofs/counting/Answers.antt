@@ -1,5 +1,5 @@
 -- The first bytes, or all of them where there are no more. Assumes nothing.
-use Rattle.std.proofs.Common.{length}
+use Rattle.std.proofs.Common.{length, ◌≤◌}
 use native.Mathlib.Omega.{arith}
 use mathlib.Core.Path.{sym, ◌∙◌}
 use lib.Seq.{take_all}
@@ -9,7 +9,7 @@ use Rattle.text.proofs.counting.Goals as goal
 pub returns : goal.returns
 returns c =
     let capture = c.args.capture.now in
-    let few = c.if-capture-gt-MOST_READ.false in
+    let few : length capture ≤ most_read = omega arith in
     record {
       within = omega arith;
       few = few;

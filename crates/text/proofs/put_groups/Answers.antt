@@ -83,5 +83,5 @@ pub loop-index-preserved : goal.loop-index-preserved
 loop-index-preserved c = (
   omega arith,
   more c.args.table.now c.view-view.result c.view-view.ensures c.requires.table_len c.loop-index.index
-  c.loop-index-test.true c.loop-index.invariant.1 c.put_group-place.ensures,
+      c.loop-index-test.true c.loop-index.invariant.1 c.put_group-place.ensures,
 )

@@ -46,4 +46,3 @@ loop-used-preserved c =
     c.requires.table_len c.loop-used-test.true c.listen-answer.ensures
     in
     (t.on, rw t.lines (put_then c.loop-used.invariant.1 c.put_said-place.ensures))
-
