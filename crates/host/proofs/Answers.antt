@@ -15,7 +15,7 @@ use Rattle.standard.specs.declared.Reply.{Reply}
 use Rattle.standard.specs.declared.Reply.TheVariants.{Nothing}
 use Rattle.standard.specs.Messages.{longest}
 use Rattle.standard.specs.Judge.{Handed, handing, verdict_for, verdicts_in, handed_in}
-use Rattle.standard.specs.Replies.{reply_number, reply_of}
+use Rattle.standard.specs.Replies.{reply_number}
 use Rattle.standard.specs.Table.{table_bytes, table_after}
 use Rattle.standard.proofs.Replies.{reply_none}
 use Rattle.reader.specs.declared.Reader.{Reader}

@@ -1,5 +1,4 @@
 -- `messages::second_most` meets its contract: the definition's own tests. Assumes nothing.
-use mathlib.Core.Path.{sym, refl}
 use borrow.Author.Tests.{ne_eqb}
 use Rattle.messages.proofs.second_most.Statement.{statement}
 use Rattle.messages.proofs.second_most.Tie as tie

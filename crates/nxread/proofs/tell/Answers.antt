@@ -1,7 +1,5 @@
 -- The buffer has room for every report, so that none is refused, and what `report` says is the report's length.
 -- Assumes nothing.
-use Rattle.std.proofs.Common.{sym}
-use lib.Seq.{length-take-le}
 use Rattle.text.proofs.Reports.{told}
 use Rattle.nxread.proofs.tell.Goals as goal
 

@@ -12,15 +12,12 @@ use lib.Dec.{eqb}
 use lib.ListN.{length, get_or, take, drop, set, length-append, length-take, length-drop, take-append-drop}
 use lib.ListN.{drop_of_length-le}
 use lib.Seq.{length-take-le, drop-cons, drop-drop, append_snoc, set_split}
-use borrow.Author.Tests.{eqb-true, eqb-false}
+use borrow.Author.Tests.{eqb-false}
 use Rattle.standard.specs.declared.Framing.{Framing}
 use Rattle.standard.specs.declared.Framing.TheVariants.{Binary, Ascii}
-use Rattle.standard.specs.declared.Sums.{Sums}
-use Rattle.standard.specs.declared.Verdict.{Verdict}
 use Rattle.standard.specs.declared.Said.{Said}
 use Rattle.standard.specs.declared.Said.TheVariants.{Silent, Gave}
 use Rattle.standard.specs.Words.{laid}
-use Rattle.standard.specs.Sums.{sums_of}
 use Rattle.standard.specs.Messages.{longest, length_ok}
 use Rattle.standard.specs.Framing.{start_of}
 use Rattle.standard.specs.Judge.{Handed, handing, verdict_for, verdicts_in, handed_in}

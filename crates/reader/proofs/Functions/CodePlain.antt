@@ -1,10 +1,10 @@
 -- Plain bytes at once: a reader that steps through those that an open frame takes comes to the same. One law for both
 -- framings. Assumes nothing.
-use Prim.Native.Nat.{ℕ, zero, suc, ◌+◌, ◌-◌, ◌*◌, ◌≤◌, ◌<◌}
+use Prim.Native.Nat.{ℕ, zero, suc, ◌+◌, ◌*◌, ◌≤◌, ◌<◌}
 use native.Mathlib.Nat.{zero-add, add_assoc}
 use native.Mathlib.Omega.{arith}
 use mathlib.Core.Path.{◌≡◌, refl, sym, ap, ◌∙◌}
-use mathlib.Core.Bool.{Bool, true, false, cond, ◌&&◌}
+use mathlib.Core.Bool.{true, false, cond}
 use mathlib.Core.Option.{Option, none, some}
 use mathlib.Core.List.{List, [], ◌∷◌, ◌++◌, append-nil, cons≢nil}
 use lib.ListN.{length, get_or, take, drop}
@@ -14,13 +14,13 @@ use Rattle.standard.specs.declared.Framing.{Framing}
 use Rattle.standard.specs.declared.Framing.TheVariants.{Binary, Ascii}
 use Rattle.standard.specs.declared.Escapes.{Escapes}
 use Rattle.standard.specs.Messages.{length_ok}
-use Rattle.standard.specs.Framing.{start_of, value_of}
+use Rattle.standard.specs.Framing.{value_of}
 use Rattle.frames.specs.Plain.{stands, plain_of, span, beyond}
 use Rattle.frames.proofs.Plainly.{Seen, nothing, one, two, seen, after_one, span_none, span_more}
 use Rattle.reader.specs.declared.Mode.{Mode}
 use Rattle.reader.specs.declared.Mode.TheVariants.{Open, Digit}
-use Rattle.reader.specs.Step.{State, framing_of, goes, takes, takes_digit, takes_character, step_of}
-use Rattle.reader.specs.Read.{Read, read_on, scan_of}
+use Rattle.reader.specs.Step.{State, goes, takes, step_of}
+use Rattle.reader.specs.Read.{Read, scan_of}
 use Rattle.reader.proofs.Part.Frames.{length_snoc}
 use Rattle.reader.proofs.Functions.CodeSteps.{no_start, takes_length, takes_ascii, takes_more, digit_due}
 

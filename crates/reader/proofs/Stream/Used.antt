@@ -1,6 +1,6 @@
 -- The readers met from a fresh one are the sound ones, so that 12 is never given; and a read uses the fewest bytes that
 -- give the stream one verdict more, or all. Assumes nothing.
-use Prim.Native.Nat.{ℕ, ◌≤◌, ◌<◌}
+use Prim.Native.Nat.{ℕ, ◌<◌}
 use native.Mathlib.Omega.{arith}
 use mathlib.Core.Path.{◌≡◌, refl, sym, ap, ◌∙◌, subst}
 use mathlib.Core.Bool.{Bool, true, false}

@@ -1,5 +1,4 @@
 -- `reader::read` meets its contract: it lends its reader's array. Assumes nothing.
-use native.Mathlib.Omega.{arith}
 use borrow.Author.Rules.{rules}
 use Rattle.reader.proofs.State.Arrays.{lent_is_read}
 use Rattle.reader.proofs.read.Statement.{statement}

@@ -1,5 +1,5 @@
 -- Slots that are not eight are refused with 22, and stay. Assumes nothing.
-use Rattle.std.proofs.Common.{◌≡◌, sym, ap, ◌∙◌}
+use Rattle.std.proofs.Common.{sym, ap, ◌∙◌}
 use Rattle.commands.specs.Commands.{after}
 use Rattle.commands.proofs.NotEight.{told_not_eight}
 use Rattle.slots.proofs.Line.{unlike}

@@ -1,9 +1,9 @@
 -- `table::put_partition` meets its contract: the partition's mark and seven bytes, made whole, are stored from its mark
 -- on. Assumes nothing.
-use Rattle.std.proofs.Common.{◌≡◌, ℕ, ◌+◌, ◌≤◌, ◌<◌, List, [], ◌∷◌, length, get_or, take, drop, bit_or, sym, ap, ◌∙◌, arith}
+use Rattle.std.proofs.Common.{◌≡◌, ℕ, ◌+◌, ◌≤◌, List, ◌∷◌, length, get_or, take, drop, bit_or, sym, ap, ◌∙◌, arith}
 use lib.Seq.{sets}
 use Rattle.standard.specs.Words.{byte}
-use Rattle.standard.specs.Table.{table_bytes, partition_place, partition_writes, done_all}
+use Rattle.standard.specs.Table.{partition_place, partition_writes, done_all}
 use Rattle.standard.proofs.Put.{copied_to, listed, part_listed}
 use Rattle.standard.proofs.Table.{record_stored}
 use Rattle.table.proofs.put_partition.Goals as goal

@@ -1,7 +1,7 @@
 -- `table::put_system` meets its contract: the record, made whole, is stored. Assumes nothing.
-use Rattle.std.proofs.Common.{◌≡◌, ℕ, ◌+◌, ◌≤◌, ◌<◌, List, [], ◌∷◌, length, get_or, take, drop, sym, ap, ◌∙◌, arith}
+use Rattle.std.proofs.Common.{◌≡◌, ℕ, ◌+◌, ◌≤◌, List, ◌∷◌, length, take, drop, sym, ap, ◌∙◌, arith}
 use lib.Seq.{sets}
-use Rattle.standard.specs.Table.{table_bytes, system_place, system_writes, done_all}
+use Rattle.standard.specs.Table.{system_place, system_writes, done_all}
 use Rattle.standard.proofs.Put.{copied_to, listed, part_listed}
 use Rattle.standard.proofs.Table.{done_all_run}
 use Rattle.table.proofs.put_system.Goals as goal

@@ -1,8 +1,8 @@
 -- `table::put_zone` meets its contract: the zone's record, made whole, is stored from its mark on. Assumes nothing.
-use Rattle.std.proofs.Common.{◌≡◌, ℕ, ◌+◌, ◌≤◌, ◌<◌, List, [], ◌∷◌, length, get_or, bit_or, ap₂, ◌∙◌, arith}
+use Rattle.std.proofs.Common.{◌≡◌, ℕ, ◌+◌, ◌≤◌, List, [], ◌∷◌, length, get_or, bit_or, ap₂, ◌∙◌, arith}
 use lib.Seq.{sets}
 use Rattle.standard.specs.Words.{byte}
-use Rattle.standard.specs.Table.{table_bytes, zone_place, short_from, zone_writes, done_all}
+use Rattle.standard.specs.Table.{zone_place, short_from, zone_writes, done_all}
 use Rattle.standard.proofs.Put.{copied_to}
 use Rattle.standard.proofs.Table.{record_stored}
 use Rattle.standard.proofs.Applied.{zone_run}

@@ -4,7 +4,7 @@ use Rattle.std.proofs.Common.{◌≡◌, ℕ, true, false, ◌&&◌, List, lengt
 use lib.Seq.{take-length}
 use borrow.Author.Tests.{eq-eqb, ne_eqb}
 use Rattle.standard.specs.Messages.{is_status}
-use Rattle.standard.specs.Table.{is_table, applied_to}
+use Rattle.standard.specs.Table.{is_table}
 use Rattle.standard.specs.Questions.{table_refusal}
 use Rattle.standard.proofs.Questions.{asked_whole, whole_is}
 use Rattle.standard.proofs.Stored.{kept}
