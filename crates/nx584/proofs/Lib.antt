@@ -7,5 +7,4 @@ pub mod Station
 pub mod Maps
 pub mod Unique
 pub mod FreshReader
-pub mod Lent
 pub mod Scans

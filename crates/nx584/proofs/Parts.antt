@@ -2,7 +2,7 @@
 -- nothing.
 use Prim.Native.Nat.{ℕ, ◌+◌, ◌≤◌, ◌<◌}
 use native.Mathlib.Omega.{arith}
-use mathlib.Core.Path.{◌≡◌, refl, ap, ◌∙◌}
+use mathlib.Core.Path.{◌≡◌, refl, sym, ap, ◌∙◌}
 use mathlib.Core.Bool.{Bool, true, false, cond}
 use mathlib.Core.List.{List, [], ◌∷◌, ◌++◌, append-nil}
 use lib.Dec.{eqb}
@@ -44,6 +44,11 @@ module _ (refusal size : ℕ) (value part : List ℕ) (sized : refusal ≡ 0 →
           let fits : length (replicate {A = ℕ} size 0) ≤ length value = rw length-replicate (omega arith) in
           rw e (copied_all value (replicate size 0) fits (rw (given, e) at h))
       go false e = rw e (rw (given, e) at h)
+
+  -- the same, as the array comes back from a copy into its beginning
+  pub part_laid : {copy : List ℕ} → copy ≡ part
+      → copy ++ drop (length part) (replicate size 0) ≡ part_unless refusal size value
+  part_laid h = part_copied (ap (λ l. l ++ drop (length part) (replicate size 0)) (h ∙ sym (take-length part)))
 
   pub unless_sized : length (part_unless refusal size value) ≡ size
   unless_sized = go (eqb refusal 0) refl

@@ -1,6 +1,6 @@
 -- Each exported function's contract settles its answer, and every byte of what it was lent: two answers that meet the
--- predicate that the contract generates are equal. A function that is lent slots is walked by hand, and the kit makes
--- no such predicate of it: there the theorem is over the clause that the contract generates. Assumes nothing.
+-- predicate that the contract generates are equal. Of a function that is lent slots the theorem is over the clause that
+-- the contract generates. Assumes nothing.
 use mathlib.Core.Path.{◌≡◌, sym, ap, ◌∙◌}
 use mathlib.Core.List.{List}
 use seplogic.Ra.Ura.{Ura}
