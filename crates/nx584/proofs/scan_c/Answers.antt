@@ -124,10 +124,10 @@ overflow_cast-result c =
     let scan = c.scan-scanned in
     let reader = next s scan.result.mode scan.result.held scan.new.frame in
     let w =
-        told s a.bytes.now c.requires c.framing_for.ensures c.mode_for-from.ensures c.escapes_for.ensures scan.ensures
+    told s a.bytes.now c.requires c.framing_for.ensures c.mode_for-from.ensures c.escapes_for.ensures scan.ensures
     in
     let h = passed s a.bytes.now reader (sym c.mode_ok.ensures ∙ c.if-not-mode_ok.false) w c.numbers-verdict.ensures
-        c.if-verdict-eq12.false
+    c.if-verdict-eq12.false
     in
     record { fits = omega (arith, few s a.bytes.now reader h w) }
 
@@ -138,10 +138,10 @@ returns c =
     let scan = c.scan-scanned in
     let reader = next s scan.result.mode scan.result.held scan.new.frame in
     let w =
-        told s a.bytes.now c.requires c.framing_for.ensures c.mode_for-from.ensures c.escapes_for.ensures scan.ensures
+    told s a.bytes.now c.requires c.framing_for.ensures c.mode_for-from.ensures c.escapes_for.ensures scan.ensures
     in
     let h = passed s a.bytes.now reader (sym c.mode_ok.ensures ∙ c.if-not-mode_ok.false) w c.numbers-verdict.ensures
-        c.if-verdict-eq12.false
+    c.if-verdict-eq12.false
     in
     answered s a.bytes.now reader c.requires h w c.framing_of.ensures c.mode_number.ensures c.digit_number.ensures
     c.numbers-verdict.ensures
