@@ -1,21 +1,20 @@
 -- What include/nx584.h says of the numbers, as laws of the definitions. Assumes nothing.
-use Prim.Native.Nat.{ℕ, zero, suc, ◌+◌, ◌-◌, ◌≤◌, ◌<◌}
+use Prim.Native.Nat.{ℕ, zero, suc, ◌+◌, ◌≤◌, ◌<◌}
 use native.Mathlib.Nat.{zero-add}
 use native.Mathlib.Numerals.{add-one}
 use native.Mathlib.Omega.{arith}
 use mathlib.Core.Path.{◌≡◌, refl, sym, ap, ap₂, ◌∙◌}
 use mathlib.Core.Bool.{Bool, true, false, cond}
-use mathlib.Core.Option.{Option, none, some}
+use mathlib.Core.Option.{none, some}
 use mathlib.Core.List.{List, [], ◌∷◌, ◌++◌, map}
 use lib.Dec.{eqb}
-use lib.Ieee.{Float, nan}
+use lib.Ieee.{nan}
 use lib.ListN.{length, get_or, take, drop, replicate, length-drop}
 use lib.Seq.{take-append_seam, drop-append_seam, take-suc, take_all, drop-cons, get_or-drop, length-take-le}
 use borrow.Author.Tests.{eq-eqb, ne_eqb, le-leb, lt-leb}
 use borrow.Fn.Kinds.{Dens, ended_of, res_t}
 use contract.Lifetimes.{Lfts}
 use denote.Triple.Clauses.{AtExit}
-use Rattle.standard.specs.declared.Framing.{Framing}
 use Rattle.standard.specs.declared.Framing.TheVariants.{Binary, Ascii}
 use Rattle.standard.specs.declared.Escapes.TheVariants.{Strict, Lenient}
 use Rattle.standard.specs.declared.Written.{Written}
@@ -31,14 +30,13 @@ use Rattle.standard.proofs.Questions.{whole_asked}
 use Rattle.standard.proofs.Refusals.{of_the_writer, refusal_numbers}
 use Rattle.reader.specs.declared.Mode.TheVariants.{Open}
 use Rattle.reader.specs.Step.{step_of}
-use Rattle.reader.specs.Read.{fresh_reader, scan_of, read_of}
+use Rattle.reader.specs.Read.{scan_of, read_of}
 use Rattle.commands.specs.declared.Ended.TheVariants.{Not, GivenUp, Acknowledged, Failed, Rejected, Replied}
 use Rattle.commands.specs.declared.Sending.{Sending}
 use Rattle.commands.specs.Commands.{ended_number, answer_of}
 use Rattle.commands.proofs.Endings.{answer_one}
 use Rattle.nx584.specs.declared.CReader.{CReader}
 use Rattle.nx584.specs.declared.CReading.{CReading}
-use Rattle.nx584.specs.declared.CHearing.{CHearing}
 use Rattle.nx584.specs.declared.CWritten.{CWritten}
 use Rattle.nx584.specs.declared.CGroup.{CGroup}
 use Rattle.nx584.specs.declared.COverview.{COverview}

@@ -4,10 +4,10 @@ use Prim.Native.Nat.{ℕ, ◌+◌, ◌≤◌, ◌<◌}
 use native.Mathlib.Omega.{arith}
 use mathlib.Core.Path.{◌≡◌, refl, sym, ap, ◌∙◌}
 use mathlib.Core.Bool.{Bool, true, false, cond}
-use mathlib.Core.List.{List, [], ◌∷◌, ◌++◌, append-nil}
+use mathlib.Core.List.{List, [], ◌++◌, append-nil}
 use lib.Dec.{eqb}
-use lib.ListN.{length, get_or, take, drop, replicate, length-replicate, length-drop, drop_of_length-le}
-use lib.Seq.{take-length, length-take-le, drop-cons}
+use lib.ListN.{length, take, drop, replicate, length-replicate, length-drop, drop_of_length-le}
+use lib.Seq.{take-length, length-take-le}
 use borrow.Author.Tests.{eqb-true}
 use Rattle.standard.specs.Words.{byte}
 use Rattle.standard.specs.Table.{zone_place, partition_place, system_place}

@@ -14,7 +14,6 @@ use Rattle.standard.proofs.Words.{map_map, map_more, total_more}
 use Rattle.standard.proofs.Questions.{asked_whole}
 use Rattle.standard.proofs.Seen.{Bounded, group_bounded, seen_whole, seen_refused}
 use Rattle.nx584.specs.declared.CGroup.{CGroup}
-use Rattle.nx584.specs.declared.COverview.{COverview}
 use Rattle.nx584.specs.Boundary.{c_group, c_overview}
 use Rattle.nx584.proofs.nx584_view.Statement.{statement}
 use Rattle.nx584.proofs.nx584_view.Tie as tie
