@@ -11,15 +11,15 @@
  *
  * From the source with the Rattle kit, on x86-64 Linux:
  *
- *     rt staticlib nx584
- *     cc -std=c11 -O2 -Iinclude examples/host.c target/staticlib/libnx584.a -o unit
+ *     (cd crates/nx584 && rt lib)
+ *     cc -std=c11 -O2 -Iinclude examples/host.c crates/nx584/out/libnx584.a -o unit
  *
  * The kit's archive is for x86-64. On any other machine that the kit has, its compiler, linker and
  * emulator do the same:
  *
- *     rt staticlib nx584
+ *     (cd crates/nx584 && rt lib)
  *     tests/x86 compile -std=c11 -O2 -Iinclude examples/host.c -o target/unit.o
- *     tests/x86 link target/unit target/unit.o target/staticlib/libnx584.a
+ *     tests/x86 link target/unit target/unit.o crates/nx584/out/libnx584.a
  *     tests/x86 run target/unit --help
  *
  * Pointers are valid for their lengths, the buffers of one call do not overlap, and NULL is passed

@@ -66,7 +66,7 @@ listed() {
 
 # is_stale FILE: whether it is missing or older than some source.
 is_stale() {
-    [ ! -e "$1" ] || [ -n "$(find crates crates.txt -newer "$1" -print -quit)" ]
+    [ ! -e "$1" ] || [ -n "$(find crates crates.txt -name out -prune -o -type f -newer "$1" -print -quit)" ]
 }
 
 # ---- programs for x86-64, which is what the kit makes; tests/x86 is the one place that knows how
@@ -142,7 +142,8 @@ calls_as_x86() {
 
 # ---- what the kit makes, where it is missing or older than a source; on an Arm machine, whose release comes of them, the modules are kept
 
-archive=target/staticlib/libnx584.a
+archive=crates/nx584/out/libnx584.a
+program=crates/nxread/out/nxread
 modules=target/modules
 
 # made_by_the_kit FILE CRATE COMMAND...
@@ -157,15 +158,21 @@ made_by_the_kit() {
 }
 
 build_archive() {
-    made_by_the_kit "$archive" nx584 rt staticlib nx584
+    made_by_the_kit "$archive" nx584 in_crate nx584 lib
 }
 
-# a program that is proved is not compiled again
-check_nxread() {
-    rm -f target/stamp/nxread
-    rt check nxread
+# in_crate CRATE WORD...: a command of rt, in the crate's folder
+in_crate() {
+    local folder=crates/$1
+    shift
+    (cd "$folder" && rt "$@" </dev/null)
+}
+
+# what it prints of no capture goes nowhere
+make_nxread() {
+    in_crate nxread run >/dev/null
 }
 
 build_nxread() {
-    made_by_the_kit target/bin/nxread nxread check_nxread
+    made_by_the_kit "$program" nxread make_nxread
 }
