@@ -16,7 +16,7 @@ use Rattle.grid.specs.declared.Level.TheVariants.{Sixteen, Eight, Four, Two, One
 use Rattle.standard.specs.Words.{up_to, Put}
 use Rattle.standard.proofs.Words.{flat_map_append, up_to_more}
 use Rattle.standard.proofs.Put.{put_then, listed, part_listed}
-use Rattle.standard.proofs.Shares.{share_fair}
+use Rattle.standard.proofs.Shares.{share_fair_in}
 use Rattle.grid.specs.Grid.{wide, side, heard_in, faulted_in, share_at, bytes_of, row_of, cells_of}
 use Rattle.grid.specs.Cells.{is_number, row_at, cells_at}
 use Rattle.grid.proofs.Blocks.{block_bounded}
@@ -31,7 +31,7 @@ cell_number_lem t n top left h = go (share_at t n top left) refl
     go none e = tt
     go (some x) e =
         let fair =
-        share_fair binary32 (heard_in t n top left) (faulted_in t n top left) x (block_bounded t n top left h) e in
+        share_fair_in binary32 (heard_in t n top left) (faulted_in t n top left) x (block_bounded t n top left h) e in
         subst (λ (b : Bool). T (not b)) (sym fair.number) tt
 
 pub four_bytes : (o : Option Float) → length (bytes_of o) ≡ 4

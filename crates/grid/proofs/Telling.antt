@@ -19,7 +19,7 @@ use Rattle.standard.specs.Words.{up_to, total}
 use Rattle.standard.specs.Table.{heard_zone, short_faulted}
 use Rattle.standard.specs.Overview.{heard_one, faulted_one, share_in, Alike, Fair, float_zero, float_one}
 use Rattle.standard.proofs.Seen.{same_below, same_faulted}
-use Rattle.standard.proofs.Shares.{share_fair, not_heard}
+use Rattle.standard.proofs.Shares.{share_fair_in, not_heard_in}
 use Rattle.grid.specs.Grid.{wide, side, zone_at, block_at, heard_in, faulted_in, share_at}
 use Rattle.grid.specs.Grid.{cell_of, heard_cell, faulted_cell}
 use Rattle.grid.specs.Grid.{little_endian, minus9999, bytes_of}
@@ -32,7 +32,7 @@ use Rattle.grid.proofs.Rows.{flat_below, inside, side_wide}
 pub cell_fair : (t : List ℕ) (n top left : ℕ) (x : Float) → n ≤ 16 → share_at t n top left ≡ some x
     → Fair (heard_in t n top left) (faulted_in t n top left) x
 cell_fair t n top left x h e =
-    share_fair binary32 (heard_in t n top left) (faulted_in t n top left) x (block_bounded t n top left h) e
+    share_fair_in binary32 (heard_in t n top left) (faulted_in t n top left) x (block_bounded t n top left h) e
 
 -- ---- bytes
 
@@ -102,11 +102,11 @@ module _ (t : List ℕ) (n top left : ℕ) (few : n ≤ 16) where
   pub no_data : (bytes_of (share_at t n top left) ≡ minus9999) ↔ (heard_in t n top left ≡ 0)
   no_data = (
     λ h. go (share_at t n top left) refl h,
-    λ h. ap bytes_of ((not_heard binary32 (heard_in t n top left) (faulted_in t n top left)).1 h),
+    λ h. ap bytes_of ((not_heard_in binary32 (heard_in t n top left) (faulted_in t n top left)).1 h),
   )
     where
       go : (o : Option Float) → share_at t n top left ≡ o → bytes_of o ≡ minus9999 → heard_in t n top left ≡ 0
-      go none e h = (not_heard binary32 (heard_in t n top left) (faulted_in t n top left)).0 e
+      go none e h = (not_heard_in binary32 (heard_in t n top left) (faulted_in t n top left)).0 e
       go (some x) e h = absurd (never x e h)
 
 -- ---- "value 1 faulted, 0 not"

@@ -143,15 +143,15 @@ module _ (g : Format) (h f : ℕ) (some-heard : 0 < h) (b : Bounded h f 256) whe
 
 -- ---- the share
 
--- "not heard" when none is
-pub not_heard : (g : Format) (h f : ℕ) → (share_in g h f ≡ none) ↔ (h ≡ 0)
-not_heard g zero f = (λ e. refl, λ e. refl)
-not_heard g (suc h) f = (λ e. cc, λ e. absurd (omega arith))
+-- "not heard" when none is, in any format
+pub not_heard_in : (g : Format) (h f : ℕ) → (share_in g h f ≡ none) ↔ (h ≡ 0)
+not_heard_in g zero f = (λ e. refl, λ e. refl)
+not_heard_in g (suc h) f = (λ e. cc, λ e. absurd (omega arith))
 
 -- of a share that is a number
-pub share_fair : (g : Format) (h f : ℕ) (x : Float) → Bounded h f 256 → share_in g h f ≡ some x → Fair h f x
-share_fair g zero f x b e = let z : ◌≡◌ {A = ℕ} 0 1 = cc in absurd (omega arith)
-share_fair g (suc h) f x b e = subst (Fair (suc h) f) (cc) (fraction_fair g (suc h) f (omega arith) b)
+pub share_fair_in : (g : Format) (h f : ℕ) (x : Float) → Bounded h f 256 → share_in g h f ≡ some x → Fair h f x
+share_fair_in g zero f x b e = let z : ◌≡◌ {A = ℕ} 0 1 = cc in absurd (omega arith)
+share_fair_in g (suc h) f x b e = subst (Fair (suc h) f) (cc) (fraction_fair g (suc h) f (omega arith) b)
 
 -- as code divides: two counts that the format holds exactly
 pub divided : (g : Format) (h f : ℕ) → 0 < h → h ≤ 2 ^ prec g → f ≤ 2 ^ prec g
@@ -159,18 +159,30 @@ pub divided : (g : Format) (h f : ℕ) → 0 < h → h ≤ 2 ^ prec g → f ≤ 
 divided g zero f heard hh hf = absurd (omega arith)
 divided g (suc h) f heard hh hf = ap some (div_whole g f (suc h) hf hh heard)
 
+-- "in f64" it is the overview's
+pub share_64 : (h f : ℕ) → share_in binary64 h f ≡ share_of h f
+share_64 zero f = refl
+share_64 (suc h) f = refl
+
+pub not_heard : (h f : ℕ) → (share_of h f ≡ none) ↔ (h ≡ 0)
+not_heard h f =
+    let either = not_heard_in binary64 h f in
+    (λ e. either.0 (share_64 h f ∙ e), λ e. sym (share_64 h f) ∙ either.1 e)
+
+pub share_fair : (h f : ℕ) (x : Float) → Bounded h f 256 → share_of h f ≡ some x → Fair h f x
+share_fair h f x b e = share_fair_in binary64 h f x b (share_64 h f ∙ e)
+
 -- of every group of every table, and of the site
 pub group_fair : (t : List ℕ) (k : ℕ) (x : Float) → share_of (heard_of t k) (faulted_of t k) ≡ some x
     → Fair (heard_of t k) (faulted_of t k) x
 group_fair t k x e =
     let b = group_bounded t k in
-    share_fair binary64 (heard_of t k) (faulted_of t k) x (record { among = b.among; few = omega arith }) e
+    share_fair (heard_of t k) (faulted_of t k) x (record { among = b.among; few = omega arith }) e
 
 pub site_fair : (t : List ℕ) (x : Float)
     → (let h = total (map (heard_of t) group_numbers) in
     let f = total (map (faulted_of t) group_numbers) in
     share_of h f ≡ some x → Fair h f x)
 site_fair t x e =
-    share_fair binary64 (total (map (heard_of t) group_numbers)) (total (map (faulted_of t) group_numbers)) x
-    (site_bounded t)
-    e
+    share_fair (total (map (heard_of t) group_numbers)) (total (map (faulted_of t) group_numbers)) x
+    (site_bounded t) e

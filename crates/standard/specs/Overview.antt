@@ -40,7 +40,8 @@ share_in format (suc h) faulted = some (round format false faulted (suc h))
 
 -- "in f64"
 abbrev pub share_of : ℕ → ℕ → Option Float
-share_of heard faulted = share_in binary64 heard faulted
+share_of zero faulted = none
+share_of (suc h) faulted = some (round binary64 false faulted (suc h))
 
 -- a share's number, and none for "not heard"
 abbrev pub share_number : Share → Option Float
