@@ -3,7 +3,7 @@
 
 use std::slice;
 
-const VERSION: u32 = 7;
+const VERSION: u32 = 6;
 const LONGEST: usize = 255;
 /// Of the 41 messages, and so of what is written and handed out.
 const LONGEST_GOOD: usize = 18;

@@ -64,7 +64,7 @@ pub enum Call {
 }
 
 /// The version of nx584.h that is meant here.
-const VERSION: u32 = 7;
+const VERSION: u32 = 6;
 /// The bytes of nx584_zone_record, nx584_partition_record and nx584_system_record.
 const ZONE_RECORD: usize = 9;
 const PARTITION_RECORD: usize = 10;
