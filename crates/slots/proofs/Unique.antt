@@ -1,6 +1,5 @@
 -- Each public function's promise settles its answer, and every slot that it was lent: what the clause that its contract
--- generates says of two answers, taken together, says that they are the same. (Of a function over lent structs, which
--- is walked by hand, the kit makes no predicate `Post`; the clause is what its contract generates.) Assumes nothing.
+-- generates says of two answers, taken together, says that they are the same. Assumes nothing.
 use mathlib.Core.Path.{◌≡◌, sym, ap, ◌∙◌}
 use mathlib.Core.List.{List}
 use seplogic.Ra.Ura.{Ura}
