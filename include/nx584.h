@@ -14,8 +14,7 @@
  *     (cd crates/nx584 && rt lib)
  *     cc -std=c11 -O2 -Iinclude examples/host.c crates/nx584/out/libnx584.a -o unit
  *
- * The kit's archive is for x86-64. On any other machine that the kit has, its compiler, linker and
- * emulator do the same:
+ * The kit's own compiler, linker and C library do the same, whatever compiler the machine has:
  *
  *     (cd crates/nx584 && rt lib)
  *     tests/x86 compile -std=c11 -O2 -Iinclude examples/host.c -o target/unit.o
