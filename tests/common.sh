@@ -59,9 +59,9 @@ finish() {
     exit
 }
 
-# listed CRATE: whether crates.txt lists it.
+# listed CRATE: whether crates.txt lists it; a word may stand before the colon.
 listed() {
-    grep -Eq "^[[:blank:]]*$1[[:blank:]]*:" crates.txt
+    grep -Eq "^[[:blank:]]*$1([[:blank:]]+[a-z_=0-9]+)*[[:blank:]]*:" crates.txt
 }
 
 # is_stale FILE: whether it is missing or older than some source.
