@@ -5,117 +5,94 @@
 #![tactic(auto)]
 
 use reader::Reader;
-use standard::{Framing, Said};
+use standard::Framing;
 use std::io;
 
-fn line(rt: &impl Print, card: u64, first: u64, second: u64) -> io::Result<()> {
+// Each card's number, framing and bytes.
+const CARDS: [(u8, Framing, &[u8]); 13] = [
+    (1, Framing::Binary, b"\x7E\x01\x1D\x1E\x1F"),
+    (2, Framing::Ascii, b"\x0A011D1E1F\x0D"),
+    (
+        3,
+        Framing::Binary,
+        b"\x7E\x07\x84\x09\x7D\x5E\x10\x58\x01\x00\x7C\xD1",
+    ),
+    (
+        4,
+        Framing::Binary,
+        b"\x7E\x08\x84\x09\x7D\x5E\x10\x58\x00\x01\x00\x7D\x5D\x56",
+    ),
+    (
+        5,
+        Framing::Binary,
+        b"\x7E\x0A\x05\x00\x01\x00\x00\x00\x00\x00\x00\x00\x10\xA8",
+    ),
+    (6, Framing::Binary, b"\x7E\x01\x1D\x1E\x20"),
+    (7, Framing::Binary, b"\x7E\x7E\x01\x1D\x1E\x1F"),
+    (8, Framing::Binary, b"\x7E\x01\x7D\x7E\x01\x1D\x1E\x1F"),
+    (9, Framing::Binary, b"\x7E\x00"),
+    (9, Framing::Binary, b"\x7E\x13"),
+    (
+        9,
+        Framing::Binary,
+        b"\x7E\x13\x22\x00\x00\x00\x00\x00\x00\x00\x00\x00\x00\x00\x00\x00\x00\x00\x00\x00\x00\x35\x06",
+    ),
+    (
+        14,
+        Framing::Binary,
+        b"\x7E\x08\x84\x09\x7D\x5F\x10\x58\x00\x01\x00\x7D\x5D\x56",
+    ),
+    (15, Framing::Binary, b"\x7E\x7D\x20"),
+];
+
+fn line(rt: &impl Print, card: u8, first: u16, second: u8) -> io::Result<()> {
     println!(rt; "{card} {first} {second}")
-}
-
-fn wide(x: u8) -> u64 {
-    x as u64
-}
-
-// The zones that a table has heard.
-fn zones(rt: &impl Print, card: u64, table: &[u8]) -> io::Result<()> {
-    let mut zone: u64 = 0;
-    while zone < 256 {
-        let heard = table::zone_heard(table, zone as u8);
-        if heard.value == 1 {
-            let short = table::zone_short(table, zone as u8);
-            line(rt, card, zone + 1, wide(short.value))?;
-        }
-        zone += 1;
-    }
-    Ok(())
 }
 
 // The verdicts of a line, call by call; at most one call for each byte.
 fn verdicts(
     rt: &impl Print,
-    card: u64,
-    fresh: Reader,
+    card: u8,
+    mut reader: Reader,
     bytes: &[u8],
     table: &mut [u8],
 ) -> io::Result<()> {
-    let mut reader = fresh;
-    let mut place = 0;
-    let mut calls = 0;
-    while calls < bytes.len() {
-        if bytes.len() < place {
-            return Ok(());
-        }
-        let hearing = host::hear(reader, table, &bytes[place..]);
-        let said = hearing.said;
-        let reply = hearing.reply;
-        if let Said::Gave(verdict) = said {
+    let mut rest = bytes;
+    for _ in bytes {
+        let hearing = host::hear(reader, table, rest);
+        if let Some(verdict) = hearing.said {
             line(
                 rt,
                 card,
-                wide(verdict.number),
-                wide(standard::reply_number(reply)),
+                verdict.number as u16,
+                standard::reply_number(hearing.reply),
             )?;
         }
         reader = hearing.reader;
-        let used = hearing.used;
-        if bytes.len() - place < used {
-            return Ok(());
-        }
-        place += used;
-        calls += 1;
+        rest = rest.get(hearing.used..).unwrap_or_default();
     }
     Ok(())
 }
 
-fn run_by(rt: &impl Print, card: u64, fresh: Reader, bytes: &[u8]) -> io::Result<()> {
-    let mut table = table::fresh();
-    verdicts(rt, card, fresh, bytes, &mut table)?;
-    zones(rt, card, &table)
-}
-
-fn run(rt: &impl Print, card: u64, framing: Framing, bytes: &[u8]) -> io::Result<()> {
-    run_by(rt, card, Reader::fresh(framing), bytes)?;
-    run_by(rt, card, Reader::fresh_lenient(framing), bytes)
+// The zones that a table has heard.
+fn zones(rt: &impl Print, card: u8, table: &[u8]) -> io::Result<()> {
+    for zone in 0..=255 {
+        if let Ok(1) = table::zone_heard(table, zone)
+            && let Ok(short) = table::zone_short(table, zone)
+        {
+            line(rt, card, zone as u16 + 1, short)?;
+        }
+    }
+    Ok(())
 }
 
 fn main(rt: HostRuntime) -> io::Result<()> {
-    run(&rt, 1, Framing::Binary, b"\x7E\x01\x1D\x1E\x1F")?;
-    run(&rt, 2, Framing::Ascii, b"\x0A011D1E1F\x0D")?;
-    run(
-        &rt,
-        3,
-        Framing::Binary,
-        b"\x7E\x07\x84\x09\x7D\x5E\x10\x58\x01\x00\x7C\xD1",
-    )?;
-    run(
-        &rt,
-        4,
-        Framing::Binary,
-        b"\x7E\x08\x84\x09\x7D\x5E\x10\x58\x00\x01\x00\x7D\x5D\x56",
-    )?;
-    run(
-        &rt,
-        5,
-        Framing::Binary,
-        b"\x7E\x0A\x05\x00\x01\x00\x00\x00\x00\x00\x00\x00\x10\xA8",
-    )?;
-    run(&rt, 6, Framing::Binary, b"\x7E\x01\x1D\x1E\x20")?;
-    run(&rt, 7, Framing::Binary, b"\x7E\x7E\x01\x1D\x1E\x1F")?;
-    run(&rt, 8, Framing::Binary, b"\x7E\x01\x7D\x7E\x01\x1D\x1E\x1F")?;
-    run(&rt, 9, Framing::Binary, b"\x7E\x00")?;
-    run(&rt, 9, Framing::Binary, b"\x7E\x13")?;
-    run(
-        &rt,
-        9,
-        Framing::Binary,
-        b"\x7E\x13\x22\x00\x00\x00\x00\x00\x00\x00\x00\x00\x00\x00\x00\x00\x00\x00\x00\x00\x00\x35\x06",
-    )?;
-    run(
-        &rt,
-        14,
-        Framing::Binary,
-        b"\x7E\x08\x84\x09\x7D\x5F\x10\x58\x00\x01\x00\x7D\x5D\x56",
-    )?;
-    run(&rt, 15, Framing::Binary, b"\x7E\x7D\x20")?;
+    for (card, framing, bytes) in CARDS {
+        for fresh in [Reader::fresh(framing), Reader::fresh_lenient(framing)] {
+            let mut table = table::fresh();
+            verdicts(&rt, card, fresh, bytes, &mut table)?;
+            zones(&rt, card, &table)?;
+        }
+    }
     Ok(())
 }

@@ -1,16 +1,18 @@
 -- The flag: a message with it is as good as without, of the same number and length, and a good one of the 14 fits its
 -- slot. Assumes nothing.
-use Prim.Native.Nat.{ℕ, zero, suc, ◌+◌, ◌-◌, ◌%◌, ◌≤◌}
+use Prim.Native.Nat.{ℕ, zero, suc, ◌+◌, ◌-◌, ◌%◌, ◌<◌, ◌≤◌}
 use native.Mathlib.Omega.{arith}
 use mathlib.Core.Path.{◌≡◌, refl, ap, ◌∙◌}
 use mathlib.Core.Bool.{Bool, true, false, ◌&&◌, ◌||◌}
 use mathlib.Core.List.{List, [], ◌∷◌, ◌++◌}
 use lib.Dec.{eqb, leb}
-use lib.ListN.{length, get_or, set, take, drop, replicate}
-use lib.Seq.{take_at, length-take-le}
+use lib.ListN.{length, get_or, set, drop, replicate}
+use lib.Seq.{take_at}
 use borrow.Author.Tests.{eqb-true, leb-true, eq-eqb, le-leb}
+use Rattle.std.proofs.Common.{bit_or}
 use Rattle.standard.specs.Words.{byte, bit}
 use Rattle.standard.specs.Messages.{known, length_in, number_of, flag_of, length_for, among, values_ok, check_of}
+use Rattle.standard.proofs.Tables.{alike}
 use Rattle.standard.proofs.Messages.{passed, passed_number, both_true}
 use Rattle.commands.specs.declared.Slot.{Slot}
 use Rattle.commands.specs.Commands.{
@@ -32,11 +34,14 @@ flagged_length [] = refl
 flagged_length (t ∷ m) = refl
 
 -- the flag is set in the first byte, and zeros stand beyond the message as before
-pub flag_first : (m : List ℕ) → 1 ≤ length m
-    → set (padded m) 0 (128 + get_or (padded m) 0 0 % 128) ≡ padded (flagged m)
+set_bit : (t : ℕ) → t < 256 → bit_or t 128 ≡ 128 + t % 128
+set_bit t h = eqb-true _ _ (alike (λ (n : ℕ). eqb (bit_or n 128) (128 + n % 128)) (λ (n : ℕ). true) 256 tt t h)
+
+pub flag_first : (m : List ℕ) → 1 ≤ length m → byte 1 m < 256
+    → set (padded m) 0 (bit_or (get_or (padded m) 0 0) 128) ≡ padded (flagged m)
 unfolding flagged
-flag_first [] h = absurd (omega (arith, h))
-flag_first (t ∷ m) h = refl
+flag_first [] h b = absurd (omega (arith, h))
+flag_first (t ∷ m) h b = ap (λ (n : ℕ). set (padded (t ∷ m)) 0 n) (set_bit t b)
 
 -- beyond a message in its array stand zeros
 drop_zeros : (n k : ℕ) → drop n (replicate {A = ℕ} k 0) ≡ replicate (k - n) 0
@@ -49,10 +54,6 @@ pub padded_zeros : (m : List ℕ) → padded m ≡ m ++ replicate (longest_comma
 padded_zeros m =
     let e : 0 + length m ≡ length m = omega arith in
     ap (λ n. m ++ drop n (replicate {A = ℕ} longest_command 0)) e ∙ ap (◌++◌ m) (drop_zeros (length m) longest_command)
-
--- what goes out of a slot has the slot's length
-pub length_out : (n : ℕ) (m : List ℕ) → n ≤ length m → length (flagged (take n m)) ≡ n
-length_out n m h = flagged_length (take n m) ∙ length-take-le n m h
 
 -- a flag that is set again changes nothing
 pub flagged_twice : (m : List ℕ) → flagged (flagged m) ≡ flagged m

@@ -1,60 +1,99 @@
 -- What is known of the first slots of a sound line where the code reads them. Assumes nothing.
-use Prim.Native.Nat.{ℕ, zero, suc, ◌≤◌}
+use Prim.Native.Nat.{ℕ, ◌<◌, ◌≤◌}
+use borrow.Author.Tests.{eqb-false}
 use native.Mathlib.Omega.{arith}
-use mathlib.Core.Path.{◌≡◌, refl, subst}
-use mathlib.Core.Bool.{Bool, true, false}
-use mathlib.Core.List.{List, [], ◌∷◌}
-use lib.ListN.{length, get_or, take, drop}
-use lib.Seq.{length-take-le}
-use Rattle.standard.specs.Words.{byte}
-use Rattle.standard.specs.Messages.{check_of}
+use mathlib.Core.Path.{◌≡◌, refl, sym, ap, ◌∙◌}
+use mathlib.Core.Bool.{true, false}
+use mathlib.Core.List.{List, [], ◌∷◌, ◌++◌}
+use lib.ListN.{length, get_or, set, length-append}
+use Rattle.std.proofs.lemmas.List.{nil_from_length}
+use Rattle.standard.specs.Words.{first_of}
 use Rattle.commands.specs.declared.Slot.{Slot}
-use Rattle.commands.specs.declared.Eight.{Eight}
-use Rattle.commands.specs.Commands.{longest_command, unused, waiting_in, sound, row}
-use Rattle.commands.specs.Places.{moved_to}
+use Rattle.commands.specs.Commands.{longest_command, flagged, padded, message_in, used, unused, blank, those, waiting_in, waiting, sound, Answer, says, after, quiet, sent_once, goes_out, moved_up, telling, take_tests, placed}
+use Rattle.commands.specs.Places.{front}
 use Rattle.commands.specs.Runs.{Each}
-use Rattle.commands.proofs.Flag.{good_length, holds}
-use Rattle.commands.proofs.Form.{Front, Behind, sound_waits}
-use Rattle.commands.proofs.Slotwise.{waits_used}
+use Rattle.commands.proofs.Flag.{holds, flagged_length, few_bytes}
+use Rattle.commands.proofs.Refusing.{taken}
+use Rattle.commands.proofs.Form.{Front, Behind, Waits, sound_form, sound_waits, sound_tests_lem}
 
--- a message that is a part from the beginning on has its first byte
-pub first_byte : (n : ℕ) (m : List ℕ) → 1 ≤ n → byte 1 (take n m) ≡ get_or m 0 0
-first_byte zero m h = absurd (omega (arith, h))
-first_byte (suc n) [] h = refl
-first_byte (suc n) (x ∷ m) h = refl
+-- the first of some slots goes out, if it is used
+pub goes_unused : (e : ℕ) (xs : List Slot) (d : Slot) → 1 ≤ length xs → used (get_or xs 0 d) ≡ false
+    → after (says 0 e []) xs ≡ goes_out e xs
+unfolding goes_out
+goes_unused e [] d h u = absurd (omega (arith, h))
+goes_unused e (s ∷ t) d h u = rw u
 
--- a good message is not empty
-pub good_some : (n : ℕ) (m : List ℕ) → n ≤ length m → check_of (take n m) ≡ 0 → 1 ≤ n
-good_some n m h e = subst (λ k. 1 ≤ k) (length-take-le n m h) (good_length (take n m) e)
+pub goes_used : (e : ℕ) (xs : List Slot) (d : Slot) → 1 ≤ length xs → (out : List ℕ) → used (get_or xs 0 d) ≡ true
+    → length (message_in (get_or xs 0 d)) ≡ (get_or xs 0 d).length
+    → out ≡ padded (flagged (message_in (get_or xs 0 d)))
+    → after (record { number = 0; ended = e; length = (get_or xs 0 d).length; message = out })
+    (set xs 0 (sent_once (get_or xs 0 d)))
+    ≡ goes_out e xs
+unfolding goes_out
+goes_used e [] d h out u n m = absurd (omega (arith, h))
+goes_used e (s ∷ t) d h out u n m =
+    let long = sym (flagged_length (message_in s) ∙ n) in
+    let answer : ℕ → List ℕ → Answer = λ k o. record { number = 0; ended = e; length = k; message = o } in
+    rw u (λ j. after (answer (long j) (m j)) (sent_once s ∷ t))
 
--- the front, and those that wait behind it
-module _ (s : Slot) (t : List Slot) (e : unused s ≡ false) (h : sound (s ∷ t) ≡ true) where
-  here : Front s × Each Behind (waiting_in t)
-  here = rw (waits_used s t e) at (sound_waits (s ∷ t) h)
+-- a message that is heard, by the first slot
+pub tells_none : (n : ℕ) (xs : List Slot) (d : Slot) → 1 ≤ length xs → used (get_or xs 0 d) ≡ false
+    → after quiet xs ≡ telling n xs
+tells_none n [] d h e = refl
+tells_none n (s ∷ t) d h e = rw e
 
-  pub sound_front : Front s
-  sound_front = here.0
-
-  pub front_few : s.length ≤ longest_command
-  front_few = (holds s here.0.holds).few
-
--- the front of eight by value has counted five ticks at most
-pub front_early : (q : Eight) → unused q.s0 ≡ false → sound (row q) ≡ true → q.s0.ticks ≤ 5
-front_early q e h = (sound_front q.s0 (drop 1 (row q)) e h).early
-
--- what the next front must have to go out
+-- what a front must have to go out
 pub record Ready (s : Slot) : Type 0 where
   pub sent : s.sent ≤ 4
   pub few : s.length ≤ longest_command
 
-module _ (s b : Slot) (t : List Slot) (e : unused s ≡ false) (h : sound (s ∷ b ∷ t) ≡ true) where
-  next_ready : (f : Bool) → unused b ≡ f → Ready (moved_to s b)
-  unfolding moved_to
-  next_ready true f = rw (f, e) (record { sent = omega arith; few = omega arith })
-  next_ready false f =
-      let behind : Each Behind (b ∷ waiting_in t) = rw (waits_used b t f) at (here s (b ∷ t) e h).1 in
-      let none = behind.0.unsent in
-      rw f (record { sent = omega (arith, none); few = (holds b behind.0.holds).few })
+used_waits : (xs : List Slot) → used (front xs) ≡ true → length xs ≡ 8 → (t : List Slot) × (waiting_in xs ≡ front xs ∷ t)
+unfolding those
+used_waits [] e n = absurd (omega (arith, n))
+used_waits (s ∷ t) e n = (waiting_in t, rw e)
 
-  pub moved_ready : Ready (moved_to s b)
-  moved_ready = next_ready (unused b) refl
+-- no more wait than there are slots
+pub waits_most : (xs : List Slot) → sound xs ≡ true → waiting xs ≤ length xs
+waits_most xs h =
+    let x = sound_form xs h in
+    omega (arith, length-append (waiting_in xs) (those unused xs), ap length x.parts)
+
+-- the front of sound slots, where it is used
+module _ (xs : List Slot) (e : used (front xs) ≡ true) (h : sound xs ≡ true) where
+  pub front_waits : (t : List Slot) × (waiting_in xs ≡ front xs ∷ t)
+  front_waits = used_waits xs e (sound_tests_lem xs h).eight
+
+  pub some_wait : 1 ≤ waiting xs
+  some_wait = omega (arith, ap length front_waits.1)
+
+  waits : Waits (front xs ∷ front_waits.0)
+  waits = rw front_waits.1 at (sound_waits xs h)
+
+  pub sound_front : Front (front xs)
+  sound_front = waits.0
+
+  pub front_few : (front xs).length ≤ longest_command
+  front_few = (holds (front xs) waits.0.holds).few
+
+  -- and what the next front must have to go out
+  pub next_ready : Ready (front (moved_up xs))
+  next_ready = rw front_waits.1 (go front_waits.0 (those unused xs) waits.1)
+    where
+      go : (t fs : List Slot) → Each Behind t → Ready (front (t ++ (blank ∷ fs)))
+      go [] fs b = record { sent = omega arith; few = omega arith }
+      go (u ∷ t) fs b =
+          let none = b.0.unsent in record { sent = omega (arith, none); few = (holds u b.0.holds).few }
+
+-- a command that is not refused has room
+pub has_room : (m : List ℕ) (xs : List Slot) → first_of (take_tests m xs) ≡ 0 → waiting xs < 8
+has_room m xs h =
+    let ok = taken m xs h in
+    let eight = (sound_tests_lem xs ok.sound).eight in
+    omega (arith, eight, waits_most xs ok.sound, eqb-false (waiting xs) 8 ok.room)
+
+-- and goes out where none waits
+pub first_placed : (m : List ℕ) (xs : List Slot) → first_of (take_tests m xs) ≡ 0 → waiting xs ≡ 0
+    → (front (placed m xs)).length ≤ longest_command
+first_placed m xs h e =
+    let ok = taken m xs h in
+    rw (nil_from_length (waiting_in xs) e) (few_bytes m ok.good ok.one)

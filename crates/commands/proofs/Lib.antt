@@ -3,7 +3,9 @@ pub mod Flag
 pub mod Form
 pub mod Held
 pub mod Slotwise
+pub mod Beside
 pub mod Refusing
+pub mod Ticking
 pub mod NotEight
 pub mod Endings
 pub mod Step

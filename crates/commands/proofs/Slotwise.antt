@@ -1,17 +1,18 @@
--- What the definitions say of all slots at once, said of each slot and the one beside it, as the code looks at them.
---     sound-chain      soundness, slot by slot
+-- What the definitions say of all slots at once, as the code looks at them.
+--     sound_pairs      soundness, each slot and the one before it
+--     those_filter     those that pass a test, by std's word
 --     moves            the used ones behind the front move up by one
 --     puts             a command in the first free slot
---     empty-line, some-line, full      none waits, some do, all do
 -- Assumes nothing.
-use Prim.Native.Nat.{suc, ◌<◌, ◌≤◌}
+use Prim.Native.Nat.{ℕ, ◌+◌, ◌-◌, ◌<◌, ◌≤◌}
 use native.Mathlib.Omega.{arith}
 use mathlib.Core.Path.{◌≡◌, refl, sym, ap, ◌∙◌}
-use mathlib.Core.Bool.{Bool, true, false, ◌&&◌, and-true, and-false, and_assoc}
+use mathlib.Core.Bool.{Bool, true, false, cond, ◌&&◌, and-true, and-false}
 use mathlib.Core.List.{List, [], ◌∷◌, ◌++◌}
-use lib.Dec.{eqb, eqb-zero-suc, eqb-suc-zero, eqb-suc-suc}
-use lib.ListN.{length, drop}
-use Rattle.standard.proofs.Messages.{both_true}
+use lib.ListN.{length, drop, length-append}
+use lib.Seq.{take-append_seam, set-append_seam}
+use Rattle.std.specs.List.{copy_within, count_by, filter, slice_set}
+use Rattle.std.proofs.lemmas.List.Sums.{length-filter}
 use Rattle.commands.specs.declared.Slot.{Slot}
 use Rattle.commands.specs.Commands.{
   used,
@@ -28,8 +29,8 @@ use Rattle.commands.specs.Commands.{
   sound,
   moved_up,
 }
-use Rattle.commands.specs.Places.{front_ok, behind_ok, moved_to, put_in}
-use Rattle.commands.proofs.Form.{free_those}
+use Rattle.commands.specs.Places.{front_ok, behind_ok, front, each_behind}
+use Rattle.commands.proofs.Form.{sound_form}
 
 -- ---- of two values
 
@@ -81,39 +82,7 @@ module _ (s : Slot) (t : List Slot) where
     unfolding every
     none_free = rw e
 
--- no more wait than there are slots
-most_at : (s : Slot) (t : List Slot) (e : Bool) → unused s ≡ e → waiting t ≤ length t → waiting (s ∷ t) ≤ suc (length t)
-most_at s t true e h = let same : waiting (s ∷ t) ≡ waiting t = ap length (waits_free s t e) in omega (arith, h, same)
-most_at s t false e h =
-    let more : waiting (s ∷ t) ≡ suc (waiting t) = ap length (waits_used s t e) in omega (arith, h, more)
-
-pub waits_most : (t : List Slot) → waiting t ≤ length t
-unfolding those
-waits_most [] = omega arith
-waits_most (s ∷ t) = most_at s t (unused s) refl (waits_most t)
-
--- where every slot is free none waits, and the free ones are all
-none_waits : (t : List Slot) → every unused t ≡ true → waiting_in t ≡ []
-none_waits t h = (free_those t h).0
-
-all_free : (t : List Slot) → every unused t ≡ true → those unused t ≡ t
-all_free t h = (free_those t h).1
-
 -- ---- soundness
-
--- some slots are sound behind another, if what was looked at before is
-unfoldable pub chain : Bool → Slot → List Slot → Bool
-chain ok before [] = ok
-chain ok before (s ∷ t) = chain (ok && behind_ok before s) s t
-
--- what is looked at before comes first
-chain_first : (ok : Bool) (before : Slot) (t : List Slot) → (ok && chain true before t) ≡ chain ok before t
-unfolding chain
-chain_first ok before [] = and-true ok
-chain_first ok before (s ∷ t) =
-    ap (◌&&◌ ok) (sym (chain_first (behind_ok before s) s t))
-    ∙ sym (and_assoc ok (behind_ok before s) (chain true s t))
-    ∙ chain_first (ok && behind_ok before s) s t
 
 -- what soundness asks of the slots behind one
 abbrev rest : Slot → List Slot → Bool
@@ -147,11 +116,9 @@ unfolding used_first every those
 rest_none s true e = rw e
 rest_none s false e = rw e
 
-rest_chain : (s : Slot) (t : List Slot) → rest s t ≡ chain true s t
-unfolding chain
-rest_chain s [] = rest_none s (unused s) refl
-rest_chain s (b ∷ t) =
-    rest_one s b t (unused b) refl ∙ ap (◌&&◌ (behind_ok s b)) (rest_chain b t) ∙ chain_first (behind_ok s b) b t
+rest_pairs : (s : Slot) (t : List Slot) → rest s t ≡ each_behind (s ∷ t)
+rest_pairs s [] = rest_none s (unused s) refl
+rest_pairs s (b ∷ t) = rest_one s b t (unused b) refl ∙ ap (◌&&◌ (behind_ok s b)) (rest_pairs b t)
 
 front_chain : (s : Slot) (t : List Slot) (e : Bool) → unused s ≡ e → length t ≡ 7
     → sound (s ∷ t) ≡ (front_ok s && rest s t)
@@ -163,113 +130,59 @@ front_chain s t false e h =
     (both_sooner (used_first (s ∷ t)) (holds_one s) (every holds_one (waiting_in t)) (outstanding s) (every idle t))
 
 -- eight slots are sound when the first is, and each other behind the one before it
-pub sound_chain : (s : Slot) (t : List Slot) → length t ≡ 7 → sound (s ∷ t) ≡ chain (front_ok s) s t
-sound_chain s t h =
-    front_chain s t (unused s) refl h ∙ ap (◌&&◌ (front_ok s)) (rest_chain s t) ∙ chain_first (front_ok s) s t
+pub sound_pairs : (xs : List Slot) → length xs ≡ 8 → sound xs ≡ (front_ok (front xs) && each_behind xs)
+sound_pairs [] h = absurd (omega (arith, h))
+sound_pairs (s ∷ t) h = front_chain s t (unused s) refl (omega (arith, h)) ∙ ap (◌&&◌ (front_ok s)) (rest_pairs s t)
 
--- ---- the used ones move up
+module _ (xs : List Slot) (h : length xs ≡ 8) where
+  pub front_decides : front_ok (front xs) ≡ false → false ≡ sound xs
+  front_decides e = sym (sound_pairs xs h ∙ rw e)
 
--- each slot once the front has ended, by the one behind it
-unfoldable pub moved_row : Slot → List Slot → List Slot
-moved_row s [] = moved_to s blank ∷ []
-moved_row s (b ∷ t) = moved_to s b ∷ moved_row b t
+  pub others_decide : (b : Bool) → front_ok (front xs) ≡ true → b ≡ each_behind xs → b ≡ sound xs
+  others_decide b e f = f ∙ sym (sound_pairs xs h ∙ rw e)
 
--- behind the last used one every slot stays
-stays : (s : Slot) (t : List Slot) → unused s ≡ true → every unused t ≡ true → moved_row s t ≡ s ∷ t
-unfolding moved_row moved_to every
-stays s [] e h = rw e
-stays s (b ∷ t) e h =
-    let two = both_true (unused b) (every unused t) h in rw (two.0, e) (ap (◌∷◌ s) (stays b t two.0 two.1))
+-- ---- those that wait, as they are counted
 
--- the slots from b on, once a used one before them has left: `next`, the same for those behind it
-moves_at : (s b : Slot) (t : List Slot) (next : unused b ≡ false → used_first t ≡ true
-    → (waiting_in t ++ (blank ∷ those unused t)) ≡ moved_row b t)
-    (f : Bool) → unused b ≡ f → unused s ≡ false → used_first (b ∷ t) ≡ true
-    → (waiting_in (b ∷ t) ++ (blank ∷ those unused (b ∷ t))) ≡ (moved_to s b ∷ moved_row b t)
-unfolding moved_to
-moves_at s b t next true f e h =
-    let free = sym (first_free b t f) ∙ h in
-    rw (waits_free b t f, frees_free b t f, none_waits t free, all_free t free, stays b t f free, f, e)
-moves_at s b t next false f e h =
-    rw (waits_used b t f, frees_used b t f, f) (ap (◌∷◌ b) (next f (sym (first_used b t f) ∙ h)))
+those_filter : (p : Slot → Bool) (xs : List Slot) → filter p xs ≡ those p xs
+unfolding those
+those_filter p [] = refl
+those_filter p (s ∷ t) = ap (λ (r : List Slot). cond (p s) (s ∷ r) r) (those_filter p t)
 
-moves_behind : (s : Slot) (t : List Slot) → unused s ≡ false → used_first t ≡ true
-    → (waiting_in t ++ (blank ∷ those unused t)) ≡ moved_row s t
-unfolding moved_row moved_to those
-moves_behind s [] e h = rw e
-moves_behind s (b ∷ t) e h = moves_at s b t (moves_behind b t) (unused b) refl e h
+pub counted : (xs : List Slot) (n : ℕ) → n ≡ count_by used xs → n ≡ waiting xs
+counted xs n e = e ∙ sym (length-filter used xs) ∙ ap length (those_filter used xs)
 
-pub moves : (s : Slot) (t : List Slot) → unused s ≡ false → used_first (s ∷ t) ≡ true → moved_up (s ∷ t) ≡ moved_row s t
-moves s t e h = rw (waits_used s t e, frees_used s t e) (moves_behind s t e (sym (first_used s t e) ∙ h))
+-- ---- sound slots that are written
 
--- ---- a command in the first free slot
+-- behind the first, up to some place, and then from the one before that place on
+last_and : (s : Slot) (t fs : List Slot) → (x : Slot) × (drop (length t) (s ∷ (t ++ fs)) ≡ x ∷ fs)
+last_and s [] fs = (s, refl)
+last_and s (u ∷ t) fs = last_and u t fs
 
--- each slot once a command is taken; first: every slot before these is used
-unfoldable pub put_row : Slot → Bool → List Slot → List Slot
-put_row new first [] = []
-put_row new first (s ∷ t) = put_in first s new ∷ put_row new (used s) t
+moves_parts : (ws fs : List Slot) → 1 ≤ length ws
+    → slice_set (copy_within (ws ++ fs) 1 (length ws) 0) (length ws - 1) blank ≡ drop 1 ws ++ (blank ∷ fs)
+moves_parts [] fs h = absurd (omega (arith, h))
+moves_parts (s ∷ t) fs h =
+    let n : length (s ∷ t) - 1 ≡ length t = omega arith in
+    let none : 0 + length t ≡ length t = omega arith in
+    let last = last_and s t fs in
+    rw (n, none, take-append_seam t fs, last.1) (set-append_seam t last.0 fs blank)
 
-untouched : (new : Slot) (t : List Slot) → every unused t ≡ true → put_row new false t ≡ t
-unfolding put_row put_in every
-untouched new [] h = refl
-untouched new (s ∷ t) h =
-    let two = both_true (unused s) (every unused t) h in rw two.0 (ap (◌∷◌ s) (untouched new t two.1))
+-- the used ones moved up
+pub moves : (xs : List Slot) → sound xs ≡ true → 1 ≤ waiting xs
+    → slice_set (copy_within xs 1 (waiting xs) 0) (waiting xs - 1) blank ≡ moved_up xs
+moves xs h w =
+    ap (λ (l : List Slot). slice_set (copy_within l 1 (waiting xs) 0) (waiting xs - 1) blank) (sound_form xs h).parts
+    ∙ moves_parts (waiting_in xs) (those unused xs) w
 
-puts_at : (new s : Slot) (t : List Slot) (next : used_first t ≡ true → waiting t < length t
-    → (waiting_in t ++ (new ∷ drop 1 (those unused t))) ≡ put_row new true t)
-    (e : Bool) → unused s ≡ e → used_first (s ∷ t) ≡ true → waiting (s ∷ t) < length (s ∷ t)
-    → (waiting_in (s ∷ t) ++ (new ∷ drop 1 (those unused (s ∷ t)))) ≡ (put_in true s new ∷ put_row new (used s) t)
-unfolding put_in
-puts_at new s t next true e h k =
-    let free = sym (first_free s t e) ∙ h in
-    rw (waits_free s t e, frees_free s t e, none_waits t free, all_free t free, e)
-    (ap (◌∷◌ new) (sym (untouched new t free)))
-puts_at new s t next false e h k =
-    let more : waiting (s ∷ t) ≡ suc (waiting t) = ap length (waits_used s t e) in
-    rw (waits_used s t e, frees_used s t e, e)
-    (ap (◌∷◌ s) (next (sym (first_used s t e) ∙ h) (omega (arith, k, more))))
+puts_parts : (new : Slot) (ws fs : List Slot) → 1 ≤ length fs → slice_set (ws ++ fs) (length ws) new ≡ ws ++ (new ∷ drop 1 fs)
+puts_parts new ws [] h = absurd (omega (arith, h))
+puts_parts new ws (f ∷ fs) h = set-append_seam ws f fs new
 
--- where a slot is free
-pub puts : (new : Slot) (t : List Slot) → used_first t ≡ true → waiting t < length t
-    → (waiting_in t ++ (new ∷ drop 1 (those unused t))) ≡ put_row new true t
-unfolding put_row
-puts new [] h k = absurd (omega (arith, k))
-puts new (s ∷ t) h k = puts_at new s t (puts new t) (unused s) refl h k
-
--- ---- none waits, all wait
-
-pub empty_line : (s : Slot) (t : List Slot) → unused s ≡ true → used_first (s ∷ t) ≡ true → waiting_in (s ∷ t) ≡ []
-empty_line s t e h = waits_free s t e ∙ none_waits t (sym (first_free s t e) ∙ h)
-
-pub some_line : (s : Slot) (t : List Slot) → unused s ≡ false → eqb (waiting (s ∷ t)) 0 ≡ false
-some_line s t e = rw (waits_used s t e) (eqb-suc-zero (waiting t))
-
--- the last of some slots
-unfoldable pub last_of : Slot → List Slot → Slot
-last_of s [] = s
-last_of s (b ∷ t) = last_of b t
-
-last_free : (s : Slot) (t : List Slot) → unused s ≡ true → every unused t ≡ true → unused (last_of s t) ≡ true
-unfolding last_of every
-last_free s [] e h = e
-last_free s (b ∷ t) e h = let two = both_true (unused b) (every unused t) h in last_free b t two.0 two.1
-
-full_at : (s : Slot) (t : List Slot) (next : unused s ≡ false → used_first t ≡ true
-    → eqb (waiting t) (length t) ≡ used (last_of s t))
-    (e : Bool) → unused s ≡ e → used_first (s ∷ t) ≡ true → eqb (waiting (s ∷ t)) (suc (length t)) ≡ used (last_of s t)
-full_at s t next true e h =
-    let free = sym (first_free s t e) ∙ h in
-    rw (waits_free s t e, none_waits t free, last_free s t e free) (eqb-zero-suc (length t))
-full_at s t next false e h =
-    rw (waits_used s t e) (eqb-suc-suc (waiting t) (length t) ∙ next e (sym (first_used s t e) ∙ h))
-
-full_behind : (s : Slot) (t : List Slot) → unused s ≡ false → used_first t ≡ true
-    → eqb (waiting t) (length t) ≡ used (last_of s t)
-unfolding last_of those
-full_behind s [] e h = rw e
-full_behind s (b ∷ t) e h = full_at b t (full_behind b t) (unused b) refl h
-
--- all wait exactly if the last does
-pub full : (s : Slot) (t : List Slot) → used_first (s ∷ t) ≡ true
-    → eqb (waiting (s ∷ t)) (suc (length t)) ≡ used (last_of s t)
-full s t h = full_at s t (full_behind s t) (unused s) refl h
+-- a command in the first free slot
+pub puts : (new : Slot) (xs : List Slot) → sound xs ≡ true → waiting xs < 8
+    → slice_set xs (waiting xs) new ≡ waiting_in xs ++ (new ∷ drop 1 (those unused xs))
+puts new xs h w =
+    let x = sound_form xs h in
+    let free : 1 ≤ length (those unused xs) =
+    omega (arith, w, x.form.eight, length-append (waiting_in xs) (those unused xs)) in
+    ap (λ (l : List Slot). slice_set l (waiting xs) new) x.parts ∙ puts_parts new (waiting_in xs) (those unused xs) free

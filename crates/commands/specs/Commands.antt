@@ -1,12 +1,13 @@
 -- Document 02, No. 1, "Commands that are repeated until acknowledged". Each definition stands under the words that it
 -- reads. Assumes nothing.
-use Rattle.std.specs.Prelude.{ℕ, ◌+◌, ◌%◌, Bool, true, cond, not, ◌&&◌, ◌||◌, List, [], ◌∷◌, ◌++◌, eqb, leb, length, take, drop, replicate}
+use Rattle.std.specs.Prelude.{Option, Some, None, Result, Ok, Err, ℕ, ◌+◌, ◌%◌, Bool, true, cond, not, ◌&&◌, ◌||◌, List, [], ◌∷◌, ◌++◌, eqb, leb, length, take, drop, replicate}
 use Rattle.standard.specs.Words.{byte, first_of, laid}
+use Rattle.standard.specs.declared.Refusal.{Refusal}
+use Rattle.standard.specs.Refusals.{refusal_number}
 use Rattle.standard.specs.Messages.{number_of, among, within, message_tests, check_of}
 use Rattle.commands.specs.declared.Slot.{Slot}
-use Rattle.commands.specs.declared.Eight.{Eight}
 use Rattle.commands.specs.declared.Ended.{Ended}
-use Rattle.commands.specs.declared.Ended.TheVariants.{Not, GivenUp, Acknowledged, Failed, Rejected, Replied}
+use Rattle.commands.specs.declared.Ended.TheVariants.{GivenUp, Acknowledged, Failed, Rejected, Replied}
 use Rattle.commands.specs.declared.Sending.{Sending}
 
 -- ---- the commands
@@ -96,14 +97,18 @@ sound xs = eqb (length xs) 8 && used_first xs && every holds_one (waiting_in xs)
 
 -- ---- what a call answers, and what it leaves
 
--- the ways of ending in the paper's numbers: 0 not ended, 1 given up, else the message that ended it
-abbrev pub ended_number : Ended → ℕ
-ended_number Not = 0
-ended_number GivenUp = 1
-ended_number Acknowledged = 0x1D
-ended_number Failed = 0x1C
-ended_number Rejected = 0x1F
-ended_number Replied = 0x12
+-- the ways of ending in the paper's numbers: 1 given up, else the message that ended it
+abbrev pub way_number : Ended → ℕ
+way_number GivenUp = 1
+way_number Acknowledged = 0x1D
+way_number Failed = 0x1C
+way_number Rejected = 0x1F
+way_number Replied = 0x12
+
+-- 0: not ended
+abbrev pub ended_number : Option Ended → ℕ
+ended_number None = 0
+ended_number (Some way) = way_number way
 
 pub record Answer : Type 0 where
   pub number : ℕ
@@ -111,12 +116,14 @@ pub record Answer : Type 0 where
   pub length : ℕ
   pub message : List ℕ
 
-abbrev pub answer_of : Sending → Answer
-answer_of r = record { number = r.number; ended = ended_number r.ended; length = r.length; message = r.message }
-
 -- the number, how the front ended, and the message that goes out: [] for none
 abbrev pub says : ℕ → ℕ → List ℕ → Answer
 says number ended m = record { number = number; ended = ended; length = length m; message = padded m }
+
+-- what the code answers, in the paper's numbers; a refusal says its number, and neither an end nor a message
+abbrev pub answer_of : Result Sending Refusal → Answer
+answer_of (Ok r) = record { number = 0; ended = ended_number r.ended; length = r.length; message = r.message }
+answer_of (Err refusal) = says (refusal_number refusal) 0 []
 
 abbrev pub quiet : Answer
 quiet = says 0 0 []
@@ -131,10 +138,6 @@ after a xs = record { answer = a; slots = xs }
 -- a refused call says its number alone, and leaves every slot
 abbrev pub unless_refused : List (Bool × ℕ) → List Slot → After → After
 unless_refused tests xs done = cond (eqb (first_of tests) 0) done (after (says (first_of tests) 0 []) xs)
-
--- the eight by value
-abbrev pub row : Eight → List Slot
-row q = q.s0 ∷ q.s1 ∷ q.s2 ∷ q.s3 ∷ q.s4 ∷ q.s5 ∷ q.s6 ∷ q.s7 ∷ []
 
 -- ---- the front
 

@@ -1,5 +1,6 @@
 -- What the private functions of this crate say of one slot and the one beside it. Assumes nothing.
-use Rattle.std.specs.Prelude.{Bool, cond, ◌&&◌}
+use Rattle.std.specs.Prelude.{Bool, cond, ◌&&◌, List, zip, drop, slice_index_or}
+use Rattle.std.specs.List.{list_all}
 use Rattle.commands.specs.declared.Slot.{Slot}
 use Rattle.commands.specs.Commands.{used, unused, idle, outstanding, holds_one, blank}
 
@@ -10,10 +11,10 @@ front_ok s = cond (unused s) (idle s) (outstanding s && holds_one s)
 unfoldable pub behind_ok : Slot → Slot → Bool
 behind_ok before s = cond (unused s) (idle s) (idle s && used before && holds_one s)
 
--- what stands in a slot once the front has ended, of the slot and the one behind it
-unfoldable pub moved_to : Slot → Slot → Slot
-moved_to s behind = cond (used behind) behind (cond (used s) blank s)
+-- the first of some slots
+abbrev pub front : List Slot → Slot
+front xs = slice_index_or xs 0 blank
 
--- what stands in a slot once a command is taken; first: every slot before it is used
-unfoldable pub put_in : Bool → Slot → Slot → Slot
-put_in first s new = cond (first && unused s) new s
+-- each slot is sound behind the one before it
+abbrev pub each_behind : List Slot → Bool
+each_behind xs = list_all (λ p. behind_ok p.0 p.1) (zip xs (drop 1 xs))

@@ -2,12 +2,14 @@
 // go in, and the eight come out with what goes out on the line.
 #![tactic(auto)]
 
-ghost use Rattle.std.specs.Prelude.{◌≡◌, true, false, [], ◌∷◌, ◌<◌, ◌≤◌, length};
+ghost use Rattle.std.specs.Prelude.{◌≡◌, Some, None, Ok, cond, true, [], ◌≤◌, length, option_map};
 ghost use Rattle.standard.specs.Words.{first_of};
-ghost use Rattle.standard.specs.Messages.{among};
-ghost use Rattle.commands.specs.Commands.{one_of_them, longest_command, flagged, padded, unused, holds_one, ended_number, answer_of, says, after, row, goes_out, ended_by, again, take_tests, placed, telling, take_of, tick_of, told_of};
-ghost use Rattle.commands.specs.Commands.{ends as Commands·ends, blank as Commands·blank, idle as Commands·idle, sound as Commands·sound};
-ghost use Rattle.commands.specs.Places.{front_ok, behind_ok, moved_to, put_in};
+ghost use Rattle.standard.specs.Refusals.{refusal_number, number_in};
+ghost use Rattle.commands.specs.Commands.{one_of_them, longest_command, flagged, padded, message_in, used, holds_one, way_number, ended_number, answer_of, says, quiet, after, goes_out, moved_up, ended_by, again, take_tests, placed, telling, take_of, tick_of, told_of};
+ghost use Rattle.commands.specs.Commands.{ends, blank as Commands·blank, idle as Commands·idle, sound as Commands·sound, waiting as Commands·waiting};
+ghost use Rattle.commands.specs.Places.{front_ok, behind_ok, each_behind, front};
+
+use standard::Refusal;
 
 // The longest of the 14 commands, 31h.
 pub const LONGEST_COMMAND: usize = 13;
@@ -23,35 +25,23 @@ pub struct Slot {
 }
 
 // The eight slots, oldest command first.
-#[derive(Clone, Copy)]
-pub struct Eight {
-    pub s0: Slot,
-    pub s1: Slot,
-    pub s2: Slot,
-    pub s3: Slot,
-    pub s4: Slot,
-    pub s5: Slot,
-    pub s6: Slot,
-    pub s7: Slot,
-}
+pub type Line = [Slot; 8];
 
-// How the front ended in a call: not at all, given up, or by a good 1Dh, 1Ch, 1Fh or 12h.
+// How the front ended: given up, or by a good 1Dh, 1Ch, 1Fh or 12h.
 #[derive(Clone, Copy)]
 pub enum Ended {
-    Not,
-    GivenUp,
-    Acknowledged,
-    Failed,
-    Rejected,
-    Replied,
+    GivenUp = 1,
+    Acknowledged = 0x1D,
+    Failed = 0x1C,
+    Rejected = 0x1F,
+    Replied = 0x12,
 }
 
-// A call's answer: 0 or the refusal's number, how the front ended, and the message that goes out, of
-// length 0 where none does.
+// What a call says that is not refused: how the front ended in it, if it did, and the message that
+// goes out, of length 0 where none does.
 #[derive(Clone, Copy)]
 pub struct Sending {
-    pub number: u8,
-    pub ended: Ended,
+    pub ended: Option<Ended>,
     pub length: u8,
     pub message: [u8; LONGEST_COMMAND],
 }
@@ -59,100 +49,142 @@ pub struct Sending {
 // A call's answer, and the eight slots after it.
 #[derive(Clone, Copy)]
 pub struct Called {
-    pub answer: Sending,
-    pub line: Eight,
+    pub answer: Result<Sending, Refusal>,
+    pub line: Line,
 }
 
 // ---- soundness
 
 // "the 14 numbers"
+#[tactic(auto, unfolding(crate::specs::Commands::one_of_them))]
 fn one_of_them(number: u8) -> bool
     ensures { result ≡ one_of_them number }
 {
-    (number == 0x29)
-        | (number == 0x2B)
-        | (number == 0x2C)
-        | (number == 0x31)
-        | (0x34 <= number) & (number <= 0x37)
-        | (0x3A <= number) & (number <= 0x3F)
+    matches!(number, 0x29 | 0x2B | 0x2C | 0x31 | 0x34..=0x37 | 0x3A..=0x3F)
 }
 
-fn idle(s: Slot) -> bool
-    ensures { result ≡ Commands·idle s }
-{
-    (s.sent == 0) & (s.ticks == 0)
-}
+impl Slot {
+    // "left all zero"
+    const BLANK: Slot = Slot {
+        length: 0,
+        sent: 0,
+        ticks: 0,
+        message: [0; LONGEST_COMMAND],
+    };
 
-// "holds a good one of the 14"
-fn holds_one(s: Slot) -> bool
-    ensures { result ≡ holds_one s }
-{
-    let message = s.message;
-    let n = s.length as usize;
-    if LONGEST_COMMAND < n {
-        return false;
+    fn is_used(&self) -> bool
+        ensures { result ≡ used self.now }
+    {
+        self.length != 0
     }
-    if messages::check(&message[..n]) != 0 {
-        return false;
+
+    fn is_idle(&self) -> bool
+        ensures { result ≡ Commands·idle self.now }
+    {
+        self.sent == 0 && self.ticks == 0
     }
-    one_of_them(message[0] % 64)
+
+    // The bytes of the message in it.
+    fn held(&self) -> &[u8]
+        requires { self.now.length ≤ longest_command }
+        ensures value { result.now ≡ message_in self.now }
+        ensures len { length result.now ≡ self.now.length }
+    {
+        &self.message[..self.length as usize]
+    }
+
+    // "holds a good one of the 14"
+    #[tactic(auto, using(crate::proofs::Flag::good_length), unfolding(crate::specs::Commands::holds_one))]
+    fn holds_one(&self) -> bool
+        ensures { result ≡ holds_one self.now }
+    {
+        let Some(message) = self.message.get(..self.length as usize) else {
+            return false;
+        };
+        messages::check(message).is_ok() && one_of_them(message[0] % 64)
+    }
+
+    // "only the first has been sent, one to four times, with 0 to 5 ticks counted"
+    #[tactic(auto, unfolding(crate::specs::Places::front_ok))]
+    fn is_sound_front(&self) -> bool
+        ensures { result ≡ front_ok self.now }
+    {
+        if self.is_used() {
+            matches!(self.sent, 1..=4) && self.ticks <= 5 && self.holds_one()
+        } else {
+            self.is_idle()
+        }
+    }
+
+    // Any other slot, behind another.
+    #[tactic(auto, unfolding(crate::specs::Places::behind_ok))]
+    fn is_sound_behind(&self, before: &Slot) -> bool
+        ensures { result ≡ behind_ok before.now self.now }
+    {
+        self.is_idle() && (!self.is_used() || before.is_used() && self.holds_one())
+    }
 }
 
-// "only the first has been sent, one to four times, with 0 to 5 ticks counted"
-fn front_ok(s: Slot) -> bool
-    ensures { result ≡ front_ok s }
+// Each slot but the first is sound behind the one before it.
+fn each_behind(line: &Line) -> bool
+    ensures { result ≡ each_behind line.now }
 {
-    if s.length == 0 {
-        idle(s)
-    } else {
-        (1 <= s.sent) & (s.sent <= 4) & (s.ticks <= 5) & holds_one(s)
-    }
+    line.iter()
+        .zip(line.iter().skip(1))
+        .all(|(before, slot)| slot.is_sound_behind(before))
 }
 
-// Any other slot, behind another.
-fn behind_ok(before: Slot, s: Slot) -> bool
-    ensures { result ≡ behind_ok before s }
+// "sound when .. the used ones stand first and each holds a good one of the 14"
+#[tactic(auto, using(crate::proofs::Slotwise::front_decides, crate::proofs::Slotwise::others_decide))]
+fn sound(line: &Line) -> bool
+    ensures { result ≡ Commands·sound line.now }
 {
-    if s.length == 0 {
-        idle(s)
-    } else {
-        idle(s) & (before.length != 0) & holds_one(s)
-    }
+    line[0].is_sound_front() && each_behind(line)
 }
 
-fn sound(q: Eight) -> bool
-    ensures { result ≡ Commands·sound (row q) }
+// How many commands wait.
+#[tactic(auto, using(crate::proofs::Slotwise::counted))]
+fn waiting(line: &Line) -> usize
+    ensures { result ≡ Commands·waiting line.now }
 {
-    let a = front_ok(q.s0);
-    let b = behind_ok(q.s0, q.s1);
-    let c = behind_ok(q.s1, q.s2);
-    let d = behind_ok(q.s2, q.s3);
-    let e = behind_ok(q.s3, q.s4);
-    let f = behind_ok(q.s4, q.s5);
-    let g = behind_ok(q.s5, q.s6);
-    let h = behind_ok(q.s6, q.s7);
-    a & b & c & d & e & f & g & h
+    line.iter().filter(|slot| slot.is_used()).count()
 }
 
 // ---- answers
 
-// No message goes out.
-fn silent(number: u8, ended: Ended) -> Sending
-    ensures { answer_of result ≡ says number (ended_number ended) [] }
-{
-    Sending {
-        number,
-        ended,
-        length: 0,
-        message: [0; LONGEST_COMMAND],
+impl Sending {
+    // No message goes out.
+    fn silent(ended: Option<Ended>) -> Sending
+        ensures { answer_of (Ok result) ≡ says 0 (ended_number ended) [] }
+    {
+        Sending {
+            ended,
+            length: 0,
+            message: [0; LONGEST_COMMAND],
+        }
     }
 }
 
-// A refusal, of that number.
-pub fn refused(number: u8) -> Sending
-    ensures { answer_of result ≡ says number 0 [] }
-{
-    silent(number, Ended::Not)
+impl Called {
+    // A refused call leaves every slot.
+    fn refused(refusal: Refusal, line: Line) -> Called
+        ensures { after (answer_of result.answer) result.line ≡ after (says (refusal_number refusal) 0 []) line }
+    {
+        Called {
+            answer: Err(refusal),
+            line,
+        }
+    }
+
+    // Nothing goes out, and no front has ended.
+    fn quiet(line: Line) -> Called
+        ensures { after (answer_of result.answer) result.line ≡ after quiet line }
+    {
+        Called {
+            answer: Ok(Sending::silent(None)),
+            line,
+        }
+    }
 }
 
 // The message with its flag set, zeros beyond.
@@ -163,274 +195,191 @@ fn with_flag(message: &[u8]) -> [u8; LONGEST_COMMAND]
 {
     let mut array = [0; LONGEST_COMMAND];
     array[..message.len()].copy_from_slice(message);
-    array[0] = 128 + array[0] % 128;
+    array[0] |= 0x80;
     array
 }
 
 // ---- the front
 
 // The front goes out, if there is one.
-fn goes_out(ended: Ended, q: Eight) -> Called
-    requires sent_bound { q.s0.sent ≤ 4 }
-    requires length_le_longest_command { q.s0.length ≤ longest_command }
-    ensures { after (answer_of result.answer) (row result.line) ≡ goes_out (ended_number ended) (row q) }
+#[tactic(auto, using(crate::proofs::Held::goes_used, crate::proofs::Held::goes_unused))]
+fn goes_out(ended: Option<Ended>, mut line: Line) -> Called
+    requires sent_bound { (front line).sent ≤ 4 }
+    requires length_le_longest_command { (front line).length ≤ longest_command }
+    ensures { after (answer_of result.answer) result.line ≡ goes_out (ended_number ended) line }
 {
-    let s = q.s0;
-    if s.length == 0 {
+    let front = line[0];
+    if !front.is_used() {
         return Called {
-            answer: silent(0, ended),
-            line: q,
+            answer: Ok(Sending::silent(ended)),
+            line,
         };
     }
-    let message = s.message;
-    let n = s.length as usize;
-    let out = with_flag(&message[..n]);
-    let front = Slot {
-        length: s.length,
-        sent: s.sent + 1,
+    line[0] = Slot {
+        sent: front.sent + 1,
         ticks: 0,
-        message,
+        ..front
     };
-    let mut line = q;
-    line.s0 = front;
-    let answer = Sending {
-        number: 0,
+    let sending = Sending {
         ended,
-        length: s.length,
-        message: out,
+        length: front.length,
+        message: with_flag(front.held()),
     };
-    Called { answer, line }
-}
-
-// "left all zero"
-fn blank() -> Slot
-    ensures { result ≡ Commands·blank }
-{
-    Slot {
-        length: 0,
-        sent: 0,
-        ticks: 0,
-        message: [0; LONGEST_COMMAND],
+    Called {
+        answer: Ok(sending),
+        line,
     }
 }
 
-// What stands in a slot once the front has ended: a used one behind it moves up, and the slot that the
-// last of them leaves is all zero.
-#[tactic(auto, unfolding(crate::specs::Places::moved_to))]
-fn moved_to(s: Slot, behind: Slot) -> Slot
-    ensures { result ≡ moved_to s behind }
+// How a message of that number ends the front: "It ends by a good 1D, 1C or 1F, and 34h and 35h also by a
+// good 12h."
+#[tactic(auto, unfolding(crate::specs::Commands::ends))]
+fn end_by(front: u8, number: u8) -> Option<Ended>
+    ensures { option_map way_number result ≡ cond (ends front number) (Some number) None }
 {
-    if behind.length != 0 {
-        return behind;
+    match number {
+        0x1D => Some(Ended::Acknowledged),
+        0x1C => Some(Ended::Failed),
+        0x1F => Some(Ended::Rejected),
+        0x12 if matches!(front, 0x34 | 0x35) => Some(Ended::Replied),
+        _ => None,
     }
-    if s.length == 0 { s } else { blank() }
 }
 
-// The front ended, and the next one goes out.
-fn ended_by(ended: Ended, q: Eight) -> Called
-    requires q_value { Commands·sound (row q) ≡ true }
-    requires s0_value { unused q.s0 ≡ false }
-    ensures { after (answer_of result.answer) (row result.line) ≡ ended_by (ended_number ended) (row q) }
-{
-    let line = Eight {
-        s0: moved_to(q.s0, q.s1),
-        s1: moved_to(q.s1, q.s2),
-        s2: moved_to(q.s2, q.s3),
-        s3: moved_to(q.s3, q.s4),
-        s4: moved_to(q.s4, q.s5),
-        s5: moved_to(q.s5, q.s6),
-        s6: moved_to(q.s6, q.s7),
-        s7: moved_to(q.s7, blank()),
-    };
-    goes_out(ended, line)
+// A sound line in which a command waits, the front.
+#[derive(Clone, Copy)]
+struct Outstanding {
+    line: Line,
+    ghost sound: { Commands·sound line ≡ true },
+    ghost used: { used (front line) ≡ true },
 }
 
-// "after four sendings the next 1Eh or sixth tick gives it up"
-fn sends_again(q: Eight) -> Called
-    requires q_value { Commands·sound (row q) ≡ true }
-    requires s0_value { unused q.s0 ≡ false }
-    ensures { after (answer_of result.answer) (row result.line) ≡ again q.s0 (row q) }
-{
-    let s = q.s0;
-    if s.sent < 4 {
-        goes_out(Ended::Not, q)
-    } else {
-        ended_by(Ended::GivenUp, q)
+impl Outstanding {
+    // Those behind the front move up, and the slot that the last of them leaves is all zero.
+    fn moved_up(&self) -> Line
+        ensures { result ≡ moved_up self.now.line }
+    {
+        let mut line = self.line;
+        let used = waiting(&line);
+        line.copy_within(1..used, 0);
+        line[used - 1] = Slot::BLANK;
+        line
+    }
+
+    // The front ended, and the next one goes out.
+    #[tactic(auto, using(crate::proofs::Held::next_ready))]
+    fn ended_by(&self, ended: Ended) -> Called
+        ensures { after (answer_of result.answer) result.line ≡ ended_by (way_number ended) self.now.line }
+    {
+        goes_out(Some(ended), self.moved_up())
+    }
+
+    // "after four sendings the next 1Eh or sixth tick gives it up"
+    #[tactic(auto, using(crate::proofs::Held::front_few))]
+    fn sends_again(&self) -> Called
+        ensures { after (answer_of result.answer) result.line ≡ again (front self.now.line) self.now.line }
+    {
+        if self.line[0].sent < 4 {
+            goes_out(None, self.line)
+        } else {
+            self.ended_by(Ended::GivenUp)
+        }
+    }
+
+    // A good message of that number was heard.
+    fn hears(&self, number: u8) -> Called
+        ensures { after (answer_of result.answer) result.line ≡ telling number self.now.line }
+    {
+        if let Some(ended) = end_by(self.line[0].message[0] % 64, number) {
+            return self.ended_by(ended);
+        }
+        if number == 0x1E {
+            return self.sends_again();
+        }
+        Called::quiet(self.line)
     }
 }
 
 // ---- the three calls
 
-// What stands in a slot once a command is taken: the command in the first that is free.
-fn put_in(first: bool, s: Slot, new: Slot) -> Slot
-    ensures { result ≡ put_in first s new }
+// Whether a command is taken, or why not: 22, 4, 6, 7, 8, 13, 14.
+#[tactic(auto, using(crate::proofs::Flag::good_length, crate::proofs::Refusing::take_check, crate::proofs::Refusing::take_13, crate::proofs::Refusing::take_last))]
+fn take_refusal(line: &Line, message: &[u8]) -> Result<(), Refusal>
+    ensures { number_in result ≡ first_of (take_tests message.now line.now) }
 {
-    if first & (s.length == 0) { new } else { s }
-}
-
-// 0, or what refuses a command: 22, 4, 6, 7, 8, 13, 14.
-fn take_refusal(q: Eight, message: &[u8]) -> u8
-    ensures { result ≡ first_of (take_tests message.now (row q)) }
-{
-    if !sound(q) {
-        return 22;
+    if !sound(line) {
+        return Err(Refusal::SlotsNotSound);
     }
-    let number = messages::check(message);
-    if number != 0 {
-        return number;
-    }
+    messages::check(message)?;
     if !one_of_them(message[0] % 64) {
-        return 13;
+        return Err(Refusal::NoCommand);
     }
-    if q.s7.length == 0 { 0 } else { 14 }
+    if waiting(line) == 8 {
+        return Err(Refusal::AllWaiting);
+    }
+    Ok(())
 }
 
 // The command behind those that wait.
-fn place(q: Eight, message: &[u8]) -> Eight
-    requires { first_of (take_tests message.now (row q)) ≡ 0 }
-    ensures { row result ≡ placed message.now (row q) }
+fn place(mut line: Line, message: &[u8]) -> Line
+    requires { first_of (take_tests message.now line) ≡ 0 }
+    ensures { result ≡ placed message.now line }
 {
-    let new = Slot {
+    line[waiting(&line)] = Slot {
         length: message.len() as u8,
         sent: 0,
         ticks: 0,
         message: with_flag(message),
     };
-    Eight {
-        s0: put_in(true, q.s0, new),
-        s1: put_in(q.s0.length != 0, q.s1, new),
-        s2: put_in(q.s1.length != 0, q.s2, new),
-        s3: put_in(q.s2.length != 0, q.s3, new),
-        s4: put_in(q.s3.length != 0, q.s4, new),
-        s5: put_in(q.s4.length != 0, q.s5, new),
-        s6: put_in(q.s5.length != 0, q.s6, new),
-        s7: put_in(q.s6.length != 0, q.s7, new),
-    }
+    line
 }
 
 // A command is taken.
-pub fn take(q: Eight, message: &[u8]) -> Called
-    ensures { after (answer_of result.answer) (row result.line) ≡ take_of message.now (row q) }
+#[tactic(auto, using(crate::proofs::Held::first_placed, crate::proofs::Refusing::take_refused, crate::proofs::Refusing::take_runs))]
+pub fn take(line: Line, message: &[u8]) -> Called
+    ensures { after (answer_of result.answer) result.line ≡ take_of message.now line }
 {
-    let number = take_refusal(q, message);
-    if number != 0 {
-        return Called {
-            answer: refused(number),
-            line: q,
-        };
+    if let Err(refusal) = take_refusal(&line, message) {
+        return Called::refused(refusal, line);
     }
-    let line = place(q, message);
-    if q.s0.length == 0 {
-        goes_out(Ended::Not, line)
-    } else {
-        Called {
-            answer: silent(0, Ended::Not),
-            line,
-        }
+    let placed = place(line, message);
+    if waiting(&line) == 0 {
+        return goes_out(None, placed);
     }
+    Called::quiet(placed)
 }
 
 // Half a second passes.
-#[tactic(auto, using(crate::proofs::Held::front_early), unfolding(crate::specs::Commands::tick_of))]
-pub fn tick(q: Eight) -> Called
-    ensures { after (answer_of result.answer) (row result.line) ≡ tick_of (row q) }
+#[tactic(auto, using(crate::proofs::Ticking::refuses, crate::proofs::Ticking::idles, crate::proofs::Ticking::repeats, crate::proofs::Ticking::counts))]
+pub fn tick(mut line: Line) -> Called
+    ensures { after (answer_of result.answer) result.line ≡ tick_of line }
 {
-    if !sound(q) {
-        return Called {
-            answer: refused(22),
-            line: q,
-        };
+    if !sound(&line) {
+        return Called::refused(Refusal::SlotsNotSound, line);
     }
-    let s = q.s0;
-    if s.length == 0 {
-        return Called {
-            answer: silent(0, Ended::Not),
-            line: q,
-        };
+    if !line[0].is_used() {
+        return Called::quiet(line);
     }
-    if 5 <= s.ticks {
-        return sends_again(q);
+    if 5 <= line[0].ticks {
+        return Outstanding { line }.sends_again();
     }
-    let message = s.message;
-    let front = Slot {
-        length: s.length,
-        sent: s.sent,
-        ticks: s.ticks + 1,
-        message,
-    };
-    let mut line = q;
-    line.s0 = front;
-    Called {
-        answer: silent(0, Ended::Not),
-        line,
-    }
-}
-
-// "It ends by a good 1D, 1C or 1F, and 34h and 35h also by a good 12h."
-fn ends(front: u8, number: u8) -> bool
-    ensures { result ≡ Commands·ends front number }
-{
-    (number == 0x1D)
-        | (number == 0x1C)
-        | (number == 0x1F)
-        | (number == 0x12) & ((front == 0x34) | (front == 0x35))
-}
-
-// The end by a message of that number.
-fn end_by(number: u8) -> Ended
-    requires { among number (0x1D ∷ 0x1C ∷ 0x1F ∷ 0x12 ∷ []) ≡ true }
-    ensures { ended_number result ≡ number }
-{
-    match number {
-        0x1D => Ended::Acknowledged,
-        0x1C => Ended::Failed,
-        0x1F => Ended::Rejected,
-        _ => Ended::Replied,
-    }
-}
-
-// A good message of that number was heard while a command waits.
-fn hears(q: Eight, number: u8) -> Called
-    requires q_value { Commands·sound (row q) ≡ true }
-    requires s0_value { unused q.s0 ≡ false }
-    ensures { after (answer_of result.answer) (row result.line) ≡ telling number (row q) }
-{
-    let s = q.s0;
-    let message = s.message;
-    if ends(message[0] % 64, number) {
-        return ended_by(end_by(number), q);
-    }
-    if number == 0x1E {
-        return sends_again(q);
-    }
-    Called {
-        answer: silent(0, Ended::Not),
-        line: q,
-    }
+    line[0].ticks += 1;
+    Called::quiet(line)
 }
 
 // A message was heard.
-pub fn told(q: Eight, message: &[u8]) -> Called
-    ensures { after (answer_of result.answer) (row result.line) ≡ told_of message.now (row q) }
+#[tactic(auto, using(crate::proofs::Flag::good_length, crate::proofs::Held::tells_none, crate::proofs::Refusing::told_unsound, crate::proofs::Refusing::told_refused, crate::proofs::Refusing::told_runs))]
+pub fn told(line: Line, message: &[u8]) -> Called
+    ensures { after (answer_of result.answer) result.line ≡ told_of message.now line }
 {
-    if !sound(q) {
-        return Called {
-            answer: refused(22),
-            line: q,
-        };
+    if !sound(&line) {
+        return Called::refused(Refusal::SlotsNotSound, line);
     }
-    let number = messages::check(message);
-    if number != 0 {
-        return Called {
-            answer: refused(number),
-            line: q,
-        };
+    if let Err(refusal) = messages::check(message) {
+        return Called::refused(refusal, line);
     }
-    if q.s0.length == 0 {
-        return Called {
-            answer: silent(0, Ended::Not),
-            line: q,
-        };
+    if !line[0].is_used() {
+        return Called::quiet(line);
     }
-    hears(q, message[0] % 64)
+    Outstanding { line }.hears(message[0] % 64)
 }

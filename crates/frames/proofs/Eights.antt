@@ -1,90 +1,168 @@
--- Eight digits of an ASCII frame are four of its bytes. Assumes nothing.
-use Rattle.std.proofs.Common.{◌≡◌, ℕ, ◌+◌, ◌*◌, ◌/◌, ◌%◌, ◌<◌, ◌≤◌, List, [], ◌∷◌, length, get_or, drop, set, sym, refl, ap, ◌∙◌, subst, arith}
+-- Two and eight digits of an ASCII frame are one and four of its bytes. Assumes nothing.
+use Rattle.std.proofs.Common.{◌≡◌, ℕ, ◌+◌, ◌*◌, ◌/◌, ◌%◌, ◌<◌, ◌≤◌, ◌^◌, zero, suc, true, false, eqb, List, [], ◌∷◌, length, get_or, take, sym, refl, ap, ◌∙◌, arith}
+use Rattle.std.specs.Prelude.{Some, None, slice_get}
+use Rattle.std.specs.Int.{w16, w64, from_le_bytes}
+use lib.Bits.{bit_and}
+use mathlib.Core.Option.{Option as Maybe, none, some}
 use Rattle.standard.specs.declared.Framing.TheVariants.{Ascii}
 use Rattle.standard.specs.Words.{Bytes}
-use Rattle.standard.proofs.Framings.{bytes_none, bytes_cons}
-use Rattle.frames.specs.Plain.{digit_in, plain_of, span}
-use Rattle.frames.specs.Parts.{Next}
-use Rattle.frames.proofs.Lanes.{lanes, AllDigits, pairing, low, first_pair, other_pairs}
-use Rattle.frames.proofs.Plainly.{pair_both, Laid, laid_one, laid_count}
+use Rattle.standard.specs.Framing.{value_of, digits_of, and_digit, pairs}
+use Rattle.standard.proofs.Framings.{digit_value}
+use Rattle.frames.specs.Plain.{or_none, digit_in, plain_of}
+use Rattle.frames.proofs.Lanes.{lanes, Looked, AllDigits, looked_digits, looked_worth, looked_other, sent_of, pairing, low, first_pair, other_pairs}
 
--- the two characters at a place, before others
-abbrev pub two : List ℕ → ℕ → List ℕ → List ℕ
-two bytes at more = get_or bytes at 0 ∷ get_or bytes (at + 1) 0 ∷ more
+-- the byte of two digits, "high digit first"
+abbrev pub both : ℕ → ℕ → ℕ
+both c d = digit_in c * 16 + digit_in d
 
-pub two_bytes : (bytes : List ℕ) (at : ℕ) (more : List ℕ) → Bytes bytes → Bytes more → Bytes (two bytes at more)
-two_bytes bytes at more b m =
-    bytes_cons (get_or bytes at 0) (get_or bytes (at + 1) 0 ∷ more) (b at)
-    (bytes_cons (get_or bytes (at + 1) 0) more (b (at + 1)) m)
+-- it comes, where they are digits
+both_come : (c d : ℕ) (bs : List ℕ) → digit_in c < 16 → digit_in d < 16
+    → plain_of Ascii (c ∷ d ∷ bs) ≡ both c d ∷ plain_of Ascii bs
+unfolding pairs digits_of
+both_come c d bs h l = by_values (value_of c) (value_of d) h l
+  where
+    by_values : (v w : Maybe ℕ) → or_none v < 16 → or_none w < 16
+        → pairs (and_digit v (and_digit w (digits_of bs))) ≡ (or_none v * 16 + or_none w) ∷ pairs (digits_of bs)
+    by_values none w h l = absurd (omega arith)
+    by_values (some x) none h l = absurd (omega arith)
+    by_values (some x) (some y) h l = refl
 
--- those are digits, and n has the bytes of them and of the others: it has their byte lowest, and that comes next
-module _ (bytes : List ℕ) (at : ℕ) (more : List ℕ) (n : ℕ) (is : n ≡ pairing (lanes digit_in (two bytes at more)))
-    (high : digit_in (get_or bytes at 0) < 16) (low : digit_in (get_or bytes (at + 1) 0) < 16) where
-  lowest : n % 256 ≡ digit_in (get_or bytes at 0) * 16 + digit_in (get_or bytes (at + 1) 0)
-  lowest = ap (λ n. n % 256) is ∙ first_pair (get_or bytes at 0) (get_or bytes (at + 1) 0) more high low
+-- and none, where they are not
+none_come : (c d : ℕ) (bs : List ℕ) → (digit_in c < 16 → digit_in d < 16 → ⊥) → plain_of Ascii (c ∷ d ∷ bs) ≡ []
+unfolding pairs digits_of
+none_come c d bs not = by_values (value_of c) (value_of d) refl refl
+  where
+    by_values : (v w : Maybe ℕ) → value_of c ≡ v → value_of d ≡ w
+        → pairs (and_digit v (and_digit w (digits_of bs))) ≡ []
+    by_values none w e k = refl
+    by_values (some x) none e k = refl
+    by_values (some x) (some y) e k =
+        absurd (not (omega (arith, ap or_none e, (digit_value c x e).small)) (omega (arith, ap or_none k, (digit_value d y k).small)))
 
-  next : (k : ℕ) → at ≡ 2 * k → at + 2 ≤ length bytes → Next (plain_of Ascii (drop (span Ascii k) bytes)) (n % 256)
-  next k e there =
-      subst (λ n'. Next (plain_of Ascii (drop n' bytes)) (n % 256)) e
-      (subst (Next (plain_of Ascii (drop at bytes))) (sym lowest) (pair_both bytes at there high low))
+-- ---- as code looks at them: n has them all, and v what they are worth
 
-  pair_laid : {frame : List ℕ} {held i : ℕ} {now : List ℕ} (place : ℕ) → Laid Ascii bytes frame held i now → at ≡ 2 * i
-      → at + 2 ≤ length bytes → place ≡ held + i → held + i < length frame
-      → Laid Ascii bytes frame held (i + 1) (set now place (n % 256))
-  pair_laid {frame} {held} {i} place l e there p room =
-      laid_one (n % 256) place l (next i e there) (omega arith) p room
+bytes_take : (k : ℕ) (l : List ℕ) → Bytes l → Bytes (take k l)
+bytes_take zero l b i = omega arith
+bytes_take (suc k) [] b i = omega arith
+bytes_take (suc k) (x ∷ l) b zero = b 0
+bytes_take (suc k) (x ∷ l) b (suc i) = bytes_take k l (λ i. b (suc i)) i
 
-  -- and then those of the others
-  others : lanes digit_in more % 256 < 16 → n / 0x10000 ≡ pairing (lanes digit_in more)
-  others h =
-      ap (λ n. n / 0x10000) is ∙ other_pairs (get_or bytes at 0) (get_or bytes (at + 1) 0) more high low h
+abbrev pub Two : List ℕ → ℕ → ℕ → Type 0
+Two bs n v = Looked (take 2 bs) n 0x0101 v
 
--- the eight at a place, and those of them after the first two
-module _ (bytes : List ℕ) (at : ℕ) where
-  abbrev fourth : List ℕ
-  fourth = two bytes (at + 6) []
+pub two_looked : (bs : List ℕ) (n v : ℕ) → Bytes bs → 2 ≤ length bs → n ≡ from_le_bytes w16 (take 2 bs)
+    → v ≡ bit_and (bit_and n (0x0101 * 15) + bit_and n (0x0101 * 64) / 64 * 9) (0x0101 * 15) → Two bs n v
+unfolding lanes
+two_looked [] n v b h is w = absurd (omega arith)
+two_looked (c ∷ []) n v b h is w = absurd (omega arith)
+two_looked (c ∷ d ∷ bs) n v b h is w = record {
+  bytes = bytes_take 2 (c ∷ d ∷ bs) b;
+  number = omega (arith, is);
+  one = refl;
+  worth = w;
+}
 
-  abbrev third : List ℕ
-  third = two bytes (at + 4) fourth
+pair_worth : (c d : ℕ) → digit_in c < 16 → digit_in d < 16
+    → lanes digit_in (c ∷ d ∷ []) % 256 * 16 + lanes digit_in (c ∷ d ∷ []) / 256 ≡ both c d
+unfolding lanes
+pair_worth c d h l = omega arith
 
-  abbrev second : List ℕ
-  second = two bytes (at + 2) third
+pub two_worth : (bs : List ℕ) (n v : ℕ) → Two bs n v → 2 ≤ length bs → eqb (sent_of n 0x0101 v) n ≡ true
+    → Some (v % 256 * 16 + v / 256) ≡ slice_get (plain_of Ascii bs) 0
+two_worth [] n v l k t = absurd (omega arith)
+two_worth (c ∷ []) n v l k t = absurd (omega arith)
+two_worth (c ∷ d ∷ bs) n v l k t =
+    let high = looked_digits l t 0 (omega arith) in
+    let low = looked_digits l t 1 (omega arith) in
+    rw (looked_worth l t, pair_worth c d high low, both_come c d bs high low)
 
-  abbrev pub eight : List ℕ
-  eight = two bytes at second
+pub two_few : (bs : List ℕ) (n v : ℕ) → Two bs n v → 2 ≤ length bs → eqb (sent_of n 0x0101 v) n ≡ true
+    → v % 256 * 16 + v / 256 < 256
+two_few [] n v l k t = absurd (omega arith)
+two_few (c ∷ []) n v l k t = absurd (omega arith)
+two_few (c ∷ d ∷ bs) n v l k t =
+    let high = looked_digits l t 0 (omega arith) in
+    let low = looked_digits l t 1 (omega arith) in
+    rw (looked_worth l t, pair_worth c d high low) (omega arith)
 
-  pub eight_bytes : Bytes bytes → Bytes eight
-  eight_bytes b =
-      let last = two_bytes bytes (at + 6) [] b bytes_none in
-      two_bytes bytes at second b (two_bytes bytes (at + 2) third b (two_bytes bytes (at + 4) fourth b last))
+pub two_other : (bs : List ℕ) (n v : ℕ) → Two bs n v → 2 ≤ length bs → eqb (sent_of n 0x0101 v) n ≡ false
+    → None ≡ slice_get (plain_of Ascii bs) 0
+two_other [] n v l k t = absurd (omega arith)
+two_other (c ∷ []) n v l k t = absurd (omega arith)
+two_other (c ∷ d ∷ bs) n v l k t = ap (λ p. slice_get p 0) (sym (none_come c d bs (λ h j. looked_other l t (digits h j))))
+  where
+    digits : digit_in c < 16 → digit_in d < 16 → AllDigits (c ∷ d ∷ [])
+    digits h j zero i = h
+    digits h j (suc zero) i = j
+    digits h j (suc (suc k)) i = absurd (omega arith)
 
-  -- a frame with their four bytes laid
-  pub eight_laid : (n : ℕ) → AllDigits eight → n ≡ pairing (lanes digit_in eight)
-      → {frame : List ℕ} {held i : ℕ} {now : List ℕ} → Laid Ascii bytes frame held i now → at ≡ 2 * i
-      → at + 8 ≤ length bytes → held + i + 4 ≤ length frame
-      → Laid Ascii bytes frame held (i + 4)
-      (set (set (set (set now (held + i) (n % 256)) (held + i + 1) (n / 0x10000 % 256)) (held + i + 2)
-      (n / 0x10000 / 0x10000 % 256)) (held + i + 3) (n / 0x10000 / 0x10000 / 0x10000 % 256))
-  eight_laid n d is {frame} {held} {i} {now} l e there room =
-      let digit : (k : ℕ) → k < 8 → digit_in (get_or eight k 0) < 16 = d in
-      let h₁ = digit 0 (omega arith) in
-      let l₁ = digit 1 (omega arith) in
-      let h₂ = digit 2 (omega arith) in
-      let l₂ = digit 3 (omega arith) in
-      let h₃ = digit 4 (omega arith) in
-      let l₃ = digit 5 (omega arith) in
-      let h₄ = digit 6 (omega arith) in
-      let l₄ = digit 7 (omega arith) in
-      let n₂ = n / 0x10000 in
-      let n₃ = n₂ / 0x10000 in
-      let is₂ = others bytes at second n is h₁ l₁ (low (get_or bytes (at + 2) 0) _ h₂) in
-      let is₃ = others bytes (at + 2) third n₂ is₂ h₂ l₂ (low (get_or bytes (at + 4) 0) _ h₃) in
-      let is₄ = others bytes (at + 4) fourth n₃ is₃ h₃ l₃ (low (get_or bytes (at + 6) 0) _ h₄) in
-      let one = pair_laid bytes at second n is h₁ l₁ (held + i) l e (omega arith) refl (omega arith) in
-      let two = pair_laid bytes (at + 2) third n₂ is₂ h₂ l₂ (held + i + 1) one (omega arith) (omega arith) (omega arith)
-      (omega arith) in
-      let three = pair_laid bytes (at + 4) fourth n₃ is₃ h₃ l₃ (held + i + 2) two (omega arith) (omega arith)
-      (omega arith) (omega arith) in
-      laid_count (omega arith)
-      (pair_laid bytes (at + 6) [] (n₃ / 0x10000) is₄ h₄ l₄ (held + i + 3) three (omega arith) (omega arith)
-      (omega arith) (omega arith))
+abbrev pub Eight : List ℕ → ℕ → ℕ → Type 0
+Eight bs n v = Looked (take 8 bs) n 0x0101010101010101 v
+
+-- the four bytes of eight digits, each the lower half of its sixteen bits
+abbrev pub four : ℕ → List ℕ
+four n = n % 256 ∷ (n / 256 ^ 2 % 256) ∷ (n / 256 ^ 4 % 256) ∷ (n / 256 ^ 6 % 256) ∷ []
+
+pub eight_looked : (bs : List ℕ) (n v : ℕ) → Bytes bs → 8 ≤ length bs → n ≡ from_le_bytes w64 (take 8 bs)
+    → v ≡ bit_and
+    (bit_and n (0x0101010101010101 * 15) + bit_and n (0x0101010101010101 * 64) / 64 * 9)
+    (0x0101010101010101 * 15) → Eight bs n v
+unfolding lanes
+eight_looked (c₁ ∷ d₁ ∷ c₂ ∷ d₂ ∷ c₃ ∷ d₃ ∷ c₄ ∷ d₄ ∷ bs) n v b h is w = record {
+  bytes = bytes_take 8 (c₁ ∷ d₁ ∷ c₂ ∷ d₂ ∷ c₃ ∷ d₃ ∷ c₄ ∷ d₄ ∷ bs) b;
+  number = omega (arith, is);
+  one = refl;
+  worth = w;
+}
+eight_looked bs n v b h is w = absurd (omega arith)
+
+-- the byte of the first two digits, and the others
+after_two : (c d : ℕ) (cs : List ℕ) (n : ℕ) → n ≡ pairing (lanes digit_in (c ∷ d ∷ cs)) → digit_in c < 16
+    → digit_in d < 16
+    → lanes digit_in cs % 256 < 16 → (n % 256 ≡ both c d) × (n / 0x10000 ≡ pairing (lanes digit_in cs))
+after_two c d cs n is h l k =
+    (ap (λ n. n % 256) is ∙ first_pair c d cs h l, ap (λ n. n / 0x10000) is ∙ other_pairs c d cs h l k)
+
+pub eight_worth : (bs : List ℕ) (n v : ℕ) → Eight bs n v → 8 ≤ length bs
+    → eqb (sent_of n 0x0101010101010101 v) n ≡ true → four (pairing v) ≡ take 4 (plain_of Ascii bs)
+eight_worth (c₁ ∷ d₁ ∷ c₂ ∷ d₂ ∷ c₃ ∷ d₃ ∷ c₄ ∷ d₄ ∷ bs) n v l k t =
+    let digit : (k : ℕ) → k < 8 → digit_in (get_or (c₁ ∷ d₁ ∷ c₂ ∷ d₂ ∷ c₃ ∷ d₃ ∷ c₄ ∷ d₄ ∷ []) k 0) < 16 = looked_digits l t in
+    let h₁ = digit 0 (omega arith) in
+    let l₁ = digit 1 (omega arith) in
+    let h₂ = digit 2 (omega arith) in
+    let l₂ = digit 3 (omega arith) in
+    let h₃ = digit 4 (omega arith) in
+    let l₃ = digit 5 (omega arith) in
+    let h₄ = digit 6 (omega arith) in
+    let l₄ = digit 7 (omega arith) in
+    let n₁ = pairing v in
+    let one = after_two c₁ d₁ (c₂ ∷ d₂ ∷ c₃ ∷ d₃ ∷ c₄ ∷ d₄ ∷ []) n₁ (ap pairing (looked_worth l t)) h₁ l₁ (low c₂ _ h₂) in
+    let two = after_two c₂ d₂ (c₃ ∷ d₃ ∷ c₄ ∷ d₄ ∷ []) (n₁ / 0x10000) one.1 h₂ l₂ (low c₃ _ h₃) in
+    let three = after_two c₃ d₃ (c₄ ∷ d₄ ∷ []) (n₁ / 0x10000 / 0x10000) two.1 h₃ l₃ (low c₄ _ h₄) in
+    let last = ap (λ n. n % 256) three.1 ∙ first_pair c₄ d₄ [] h₄ l₄ in
+    rw (
+      both_come c₁ d₁ (c₂ ∷ d₂ ∷ c₃ ∷ d₃ ∷ c₄ ∷ d₄ ∷ bs) h₁ l₁,
+      both_come c₂ d₂ (c₃ ∷ d₃ ∷ c₄ ∷ d₄ ∷ bs) h₂ l₂,
+      both_come c₃ d₃ (c₄ ∷ d₄ ∷ bs) h₃ l₃,
+      both_come c₄ d₄ bs h₄ l₄,
+    )
+    (four_is n₁ _ _ _ _ one.0 two.0 three.0 last)
+  where
+    four_is : (n a b c d : ℕ) → n % 256 ≡ a → n / 0x10000 % 256 ≡ b → n / 0x10000 / 0x10000 % 256 ≡ c
+        → n / 0x10000 / 0x10000 / 0x10000 % 256 ≡ d → four n ≡ a ∷ b ∷ c ∷ d ∷ []
+    four_is n a b c d p q r s =
+        let c' : n / 256 ^ 4 % 256 ≡ c = omega arith in
+        let d' : n / 256 ^ 6 % 256 ≡ d = omega arith in
+        cc
+eight_worth bs n v l k t = absurd (omega arith)
+
+-- fewer than two characters are no byte
+pub too_few : (bytes : List ℕ) → length bytes < 2 → None ≡ slice_get (plain_of Ascii bytes) 0
+unfolding pairs digits_of
+too_few [] h = refl
+too_few (c ∷ []) h = by_value (value_of c)
+  where
+    by_value : (v : Maybe ℕ) → None ≡ slice_get (pairs (and_digit v [])) 0
+    by_value none = refl
+    by_value (some d) = refl
+too_few (c ∷ d ∷ bytes) h = absurd (omega arith)

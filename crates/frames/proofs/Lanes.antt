@@ -52,14 +52,6 @@ all_same f g (c ∷ cs) h j e zero k = omega (arith, h 0, j 0, e)
 all_same f g (c ∷ cs) h j e (suc i) k =
     all_same f g cs (λ i. h (suc i)) (λ i. j (suc i)) (omega (arith, h 0, j 0, e)) i (omega arith)
 
-most : (f g : ℕ → ℕ) (cs : List ℕ) → ((i : ℕ) → i < length cs → f (get_or cs i 0) ≤ g (get_or cs i 0))
-    → lanes f cs ≤ lanes g cs
-unfolding lanes
-most f g [] h = omega arith
-most f g (c ∷ cs) h =
-    let first : f c ≤ g c = h 0 (omega arith) in
-    omega (arith, most f g cs (λ i k. h (suc i) (omega arith)))
-
 -- ---- one character
 
 -- its low four bits, and 9 more for a letter
@@ -136,11 +128,6 @@ module _ (cs : List ℕ) (bytes : Bytes cs) where
       ∙ ap (λ b. lanes (λ c. bit_and c 15) cs + b) (times (λ c. bit_and c 64 / 64) 9 cs)
       ∙ sum (λ c. bit_and c 15) (λ c. bit_and c 64 / 64 * 9) cs in
       ap (λ n. bit_and n (ones * 15)) of ∙ masked value_of 15 (λ i. value_of_few (get_or cs i 0)) (omega arith)
-
-  values_few : lanes value cs ≤ ones * 15
-  values_few =
-      let h = most value (λ c. 15) cs (λ i k. value_few (get_or cs i 0)) in
-      omega (arith, h, each 15)
 
   -- how they would be sent
   sents : bit_and characters (ones * 15) + ones * 48 + bit_and (lanes value cs + ones * 6) (ones * 16) ≡ lanes sent cs
@@ -219,9 +206,6 @@ module _ {cs : List ℕ} {w o v : ℕ} (l : Looked cs w o v) where
   is_values =
       l.worth ∙ ap₂ (λ w o. bit_and (bit_and w (o * 15) + bit_and w (o * 64) / 64 * 9) (o * 15)) l.number l.one
       ∙ values cs l.bytes
-
-  pub looked_few : v ≤ o * 15
-  looked_few = omega (arith, is_values, l.one, values_few cs l.bytes)
 
   is_sent : sent_of w o v ≡ lanes sent cs
   is_sent =

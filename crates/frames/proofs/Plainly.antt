@@ -1,8 +1,14 @@
 -- Bytes that come plainly: one after another, as a run takes them. One law for both framings. Assumes nothing.
-use Rattle.std.proofs.Common.{◌≡◌, ℕ, zero, suc, ◌+◌, ◌-◌, ◌*◌, ◌<◌, ◌≤◌, Bool, true, false, cond, ◌&&◌, ◌||◌, eqb, ltb, leb, ◌⊎◌, List, [], ◌∷◌, length, get_or, take, drop, set, sym, refl, ap, ◌∙◌, subst, ap₂, inl, inr, add-one, arith, length-drop, drop_of_length-le, length-take, length-take-le, take_all, drop-cons, drop-drop, ltb-false, lt-ltb, eqb-true, le-leb}
-use mathlib.Core.Option.{Option, none, some}
+use Rattle.std.proofs.Common.{◌≡◌, ℕ, zero, suc, ◌+◌, ◌-◌, ◌*◌, ◌<◌, ◌≤◌, Bool, true, false, cond, ◌&&◌, ◌||◌, eqb, ltb, leb, ◌⊎◌, List, [], ◌∷◌, length, get_or, take, drop, set, sym, refl, ap, ◌∙◌, subst, ap₂, inl, inr, add-one, arith, length-append, length-drop, length-take, length-take-le, take_all, take-add, append_assoc, drop-cons, drop-drop, ltb-false, lt-ltb, eqb-true, le-leb}
+use mathlib.Core.Option.{Option as Maybe, none, some}
+use Rattle.std.specs.Prelude.{Option, Some, None, MatchOption, slice_get, ◌++◌}
+use Rattle.std.specs.Bool.{then_some}
+use Rattle.std.proofs.lemmas.Option.{MatchOption-at_some, MatchOption-at_none}
+use Rattle.std.proofs.lemmas.List.{take_at, drop_at, drop-append-le, take-append-drop}
+use Rattle.std.proofs.lemmas.List.Edits.{sets-eq}
+use borrow.Rule.Slice.PartMut.{put_mid}
 use mathlib.Core.List.{cons≢nil}
-use lib.Seq.{paste, paste-zero, paste-suc, length-paste}
+use lib.Seq.{paste-zero}
 use borrow.Author.Tests.{eqb-false, lt-leb}
 use Rattle.standard.specs.declared.Framing.{Framing}
 use Rattle.standard.specs.declared.Framing.TheVariants.{Binary, Ascii}
@@ -10,14 +16,25 @@ use Rattle.standard.specs.Words.{laid}
 use Rattle.standard.specs.Messages.{longest, length_ok}
 use Rattle.standard.specs.Framing.{stuffed, value_of, digits_of, and_digit, pairs}
 use Rattle.standard.proofs.Messages.{length_ok_lem}
-use Rattle.standard.proofs.Framings.{digit_value}
-use Rattle.frames.specs.Plain.{or_none, digit_in, stands, standing, plain_of, span, beyond, length_of, roomy, growth}
+use Rattle.frames.specs.Plain.{digit_of, said_value, stands, standing, plain_of, span, beyond, length_of, roomy, growth}
+use Rattle.frames.specs.declared.Taken.{Taken}
 use Rattle.frames.specs.Plain.{TakesPlain}
-use Rattle.frames.specs.Parts.{Next, Roomy, Lays}
+use Rattle.frames.specs.Parts.{Lays}
 
--- a character that is no digit is worth 16
-pub no_digit_lem : (c : ℕ) → value_of c ≡ none → digit_in c ≡ 16
-no_digit_lem c e = ap or_none e
+-- what code says of a character
+pub digit_some : (c d : ℕ) → Some d ≡ digit_of c → value_of c ≡ some d
+digit_some c d e = by_value (value_of c) e
+  where
+    by_value : (v : Maybe ℕ) → Some d ≡ said_value v → v ≡ some d
+    by_value none e = cc
+    by_value (some x) e = cc
+
+pub digit_none : (c : ℕ) → None ≡ digit_of c → value_of c ≡ none
+digit_none c e = by_value (value_of c) e
+  where
+    by_value : (v : Maybe ℕ) → None ≡ said_value v → v ≡ none
+    by_value none e = refl
+    by_value (some x) e = cc
 
 -- a byte stands exactly if it is sent as itself
 pub stands_sent : (b : ℕ) → stands b ≡ eqb (length (stuffed b)) 1
@@ -50,13 +67,13 @@ see_one : (b : ℕ) (bs : List ℕ) (t : Bool) → stands b ≡ t → Seen Binar
 see_one b bs true e = one e
 see_one b bs false e = nothing
 
-see_low : (c d h : ℕ) (bs : List ℕ) (v : Option ℕ) → value_of c ≡ some h → value_of d ≡ v
+see_low : (c d h : ℕ) (bs : List ℕ) (v : Maybe ℕ) → value_of c ≡ some h → value_of d ≡ v
     → Seen Ascii (c ∷ d ∷ bs) (pairs (h ∷ and_digit v (digits_of bs)))
 unfolding pairs
 see_low c d h bs none e k = nothing
 see_low c d h bs (some l) e k = two e k
 
-see_high : (c : ℕ) (cs : List ℕ) (v : Option ℕ) → value_of c ≡ v → Seen Ascii (c ∷ cs) (pairs (and_digit v (digits_of cs)))
+see_high : (c : ℕ) (cs : List ℕ) (v : Maybe ℕ) → value_of c ≡ v → Seen Ascii (c ∷ cs) (pairs (and_digit v (digits_of cs)))
 unfolding pairs digits_of
 see_high c cs none e = nothing
 see_high c [] (some h) e = nothing
@@ -97,7 +114,7 @@ pub span_more : (f : Framing) (n m : ℕ) → span f n + span f m ≡ span f (n 
 span_more Binary n m = refl
 span_more Ascii n m = omega arith
 
-pub beyond_few : (f : Framing) → beyond f ≤ 3
+beyond_few : (f : Framing) → beyond f ≤ 3
 beyond_few Binary = omega arith
 beyond_few Ascii = omega arith
 
@@ -107,7 +124,7 @@ pub record Went (f : Framing) (bytes : List ℕ) (i : ℕ) : Type 0 where
   pub some : i ≤ length (plain_of f bytes)
   pub rest : plain_of f (drop (span f i) bytes) ≡ drop i (plain_of f bytes)
 
-pub went_none : (f : Framing) (bytes : List ℕ) → Went f bytes 0
+went_none : (f : Framing) (bytes : List ℕ) → Went f bytes 0
 went_none Binary bytes = record { line = omega arith; some = omega arith; rest = refl }
 went_none Ascii bytes = record { line = omega arith; some = omega arith; rest = refl }
 
@@ -129,293 +146,221 @@ went : (f : Framing) (bytes : List ℕ) (i : ℕ) → i ≤ length (plain_of f b
 went f bytes zero h = went_none f bytes
 went f bytes (suc i) h = subst (Went f bytes) (add-one i) (went_on (went f bytes i (omega arith)) (omega arith))
 
-module _ {f : Framing} {bytes : List ℕ} {i x : ℕ} (w : Went f bytes i)
-    (n : Next (plain_of f (drop (span f i) bytes)) x) where
+-- what a list begins with
+got_lem : (l : List ℕ) (x : ℕ) → Some x ≡ slice_get l 0 → l ≡ x ∷ drop 1 l
+got_lem [] x e = cc
+got_lem (y ∷ l) x e = cc
+
+got_none : (l : List ℕ) → None ≡ slice_get l 0 → l ≡ []
+got_none [] e = refl
+got_none (y ∷ l) e = cc
+
+-- the first byte, if it stands for itself
+pub first_standing : (bytes : List ℕ) {o r : Option ℕ} (Says : ℕ → Bool → Type 0) → o ≡ slice_get bytes 0
+    → MatchOption o (r ≡ None) (λ x. (b : Bool) × Says x b × (r ≡ then_some b x))
+    → ((x : ℕ) (b : Bool) → Says x b → b ≡ stands x) → r ≡ slice_get (standing bytes) 0
+unfolding standing
+first_standing [] Says e m says = MatchOption-at_none _ _ e m
+first_standing (x ∷ bytes) Says e m says =
+    let s = MatchOption-at_some _ _ x e m in
+    s.2 ∙ rw (says x s.0 s.1) (by_test (stands x))
+  where
+    by_test : (t : Bool) → then_some t x ≡ slice_get (cond t (x ∷ standing bytes) []) 0
+    by_test true = refl
+    by_test false = refl
+
+-- i of them were taken, and are laid in the room for them
+pub record Laid (f : Framing) (bytes room : List ℕ) (i : ℕ) (now : List ℕ) : Type 0 where
+  pub went : Went f bytes i
+  pub is : now ≡ take i (plain_of f bytes) ++ drop i room
+
+pub laid_first : (f : Framing) (bytes room : List ℕ) → Laid f bytes room 0 room
+laid_first f bytes room = record { went = went_none f bytes; is = refl }
+
+module _ {f : Framing} {bytes room : List ℕ} {i : ℕ} {now : List ℕ} (l : Laid f bytes room i now) where
   abbrev P : List ℕ
   P = plain_of f bytes
 
+  many : length (take i P) ≡ i
+  many = length-take-le i P l.went.some
+
+  -- the room's size stays
+  laid_sized : i ≤ length room → length now ≡ length room
+  laid_sized here =
+      omega (arith, ap length l.is ∙ length-append (take i P) (drop i room), many, length-drop i room)
+
   -- there is none more
-  pub went_all : 255 < x → length P ≤ i
-  went_all h = omega (arith, ap length (sym w.rest ∙ n.none h), length-drop i P)
+  pub went_all : None ≡ slice_get (plain_of f (drop (span f i) bytes)) 0 → length P ≤ i
+  went_all n = omega (arith, ap length (sym l.went.rest ∙ got_none _ n), length-drop i P)
 
-  -- there is one more, and it is this
-  one_more : x ≤ 255 → (i < length P) × (get_or P i 0 ≡ x)
-  one_more h = by_rest (drop i P) w.rest refl
+  -- there are k more, and they are laid after those
+  laid_more : (k : ℕ) (xs : List ℕ) → xs ≡ take k (plain_of f (drop (span f i) bytes)) → length xs ≡ k
+      → Laid f bytes room (i + k) (put_mid i k now xs)
+  laid_more k xs e n =
+      let next : xs ≡ take k (drop i P) = e ∙ ap (take k) l.went.rest in
+      let inside : i + k ≤ length P =
+      omega (arith, sym n ∙ ap length next, length-take k (drop i P), length-drop i P, l.went.some) in
+      let before : take i now ≡ take i P = ap (take i) l.is ∙ take_at (take i P) (drop i room) i many in
+      let after : drop i now ≡ drop i room = ap (drop i) l.is ∙ drop_at (take i P) (drop i room) i many in
+      record {
+        went = went f bytes (i + k) inside;
+        is =
+            ap₂ (λ a b. a ++ (xs ++ drop k b)) before after
+            ∙ ap₂ (λ a b. take i P ++ (a ++ b)) next (drop-drop k i room)
+            ∙ sym (append_assoc (take i P) (take k (drop i P)) (drop (i + k) room))
+            ∙ ap (λ a. a ++ drop (i + k) room) (sym (take-add i k P));
+      }
+
+  -- there are four more
+  pub laid_four : (a b c d : ℕ) → a ∷ b ∷ c ∷ d ∷ [] ≡ take 4 (plain_of f (drop (span f i) bytes)) → i + 4 ≤ length room
+      → Laid f bytes room (i + 4) (set (set (set (set now i a) (i + 1) b) (i + 2) c) (i + 3) d)
+  laid_four a b c d e here =
+      let xs = a ∷ b ∷ c ∷ d ∷ [] in
+      let sized = laid_sized (omega arith) in
+      let one : i + 1 ≡ suc i = omega arith in
+      let two : i + 2 ≡ suc (suc i) = omega arith in
+      let three : i + 3 ≡ suc (suc (suc i)) = omega arith in
+      let same : set (set (set (set now i a) (suc i) b) (suc (suc i)) c) (suc (suc (suc i))) d ≡ put_mid i 4 now xs =
+      sets-eq xs now i (omega arith) ∙ append_assoc (take i now) xs (drop (i + 4) now)
+      ∙ ap (λ l. take i now ++ (xs ++ l)) (sym (drop-drop 4 i now)) in
+      rw (one, two, three) (subst (Laid f bytes room (i + 4)) (sym same) (laid_more 4 xs e refl))
+
+  -- there is one more
+  pub laid_one : (x : ℕ) → Some x ≡ slice_get (plain_of f (drop (span f i) bytes)) 0 → i < length room
+      → Laid f bytes room (i + 1) (set now i x)
+  laid_one x n here =
+      let sized = laid_sized (omega arith) in
+      let one : x ∷ [] ≡ take 1 (plain_of f (drop (span f i) bytes)) = sym (ap (take 1) (got_lem _ x n)) in
+      let same : set now i x ≡ put_mid i 1 now (x ∷ []) =
+      sets-eq (x ∷ []) now i (omega arith) ∙ append_assoc (take i now) (x ∷ []) (drop (i + 1) now)
+      ∙ ap (λ d. take i now ++ ((x ∷ []) ++ d)) (sym (drop-drop 1 i now)) in
+      subst (Laid f bytes room (i + 1)) (sym same) (laid_more 1 (x ∷ []) one refl)
+
+  -- so many were laid as are taken
+  pub laid_taken : (most : ℕ) → i ≤ most → (length P ≤ i) ⊎ (most ≤ i) → Lays room (take most P) i now
+  laid_taken most few all =
+      let same : take i P ≡ take most P = by_all all in
+      let n : length (take most P) ≡ i = ap length (sym same) ∙ many in
+      record { count = sym n; lays = l.is ∙ rw (same, n) }
     where
-      by_rest : (l : List ℕ) → plain_of f (drop (span f i) bytes) ≡ l → drop i P ≡ l → (i < length P) × (get_or P i 0 ≡ x)
-      by_rest [] e k = absurd (omega (arith, n.first ∙ ap (λ p. get_or p 0 256) e))
-      by_rest (y ∷ l) e k =
-          let inside : i < length P = omega (arith, ap length k, length-drop i P) in
-          (inside, ap (λ p. get_or p 0 0) (sym (drop-cons P i 0 inside) ∙ k) ∙ sym (n.first ∙ ap (λ p. get_or p 0 256) e))
-
-  pub went_one : x ≤ 255 → Went f bytes (i + 1)
-  went_one h = went_on w (one_more h).0
-
-  -- it is stored after those before it
-  pub stored : x ≤ 255 → (frame : List ℕ) (held : ℕ) → held + i < length frame
-      → set (paste frame held P i) (held + i) x ≡ paste frame held P (i + 1)
-  stored h frame held room =
-      let o = one_more h in
-      ap (set (paste frame held P i) (held + i)) (sym o.1) ∙ paste-suc frame held P i 0 room o.0
-      ∙ ap (paste frame held P) (sym (add-one i))
-
--- i of them were taken, and are laid after those that were held
-pub record Laid (f : Framing) (bytes frame : List ℕ) (held i : ℕ) (now : List ℕ) : Type 0 where
-  pub went : Went f bytes i
-  pub is : now ≡ paste frame held (plain_of f bytes) i
-
-pub laid_first : (f : Framing) (bytes frame : List ℕ) (held i : ℕ) (now : List ℕ) → now ≡ frame → i ≡ 0
-    → Laid f bytes frame held i now
-laid_first f bytes frame held i now e h = record {
-  went = subst (Went f bytes) (sym h) (went_none f bytes);
-  is = e ∙ paste-zero frame held (plain_of f bytes) ∙ ap (paste frame held (plain_of f bytes)) (sym h);
-}
-
--- the array's size stays
-pub laid_sized : {f : Framing} {bytes frame : List ℕ} {held i : ℕ} {now : List ℕ} → Laid f bytes frame held i now
-    → held + i ≤ length frame → length now ≡ length frame
-laid_sized {f} {bytes} {frame} {held} {i} l room =
-    ap length l.is ∙ length-paste frame held (plain_of f bytes) i room l.went.some
-
-pub laid_one : {f : Framing} {bytes frame : List ℕ} {held i : ℕ} {now : List ℕ} (x place : ℕ)
-    → Laid f bytes frame held i now → Next (plain_of f (drop (span f i) bytes)) x → x ≤ 255 → place ≡ held + i
-    → held + i < length frame → Laid f bytes frame held (i + 1) (set now place x)
-laid_one {f} {bytes} {frame} {held} {i} {now} x place l n h e room = record {
-  went = went_one l.went n h;
-  is = ap₂ (λ a k. set a k x) l.is e ∙ stored l.went n h frame held room;
-}
-
-pub laid_count : {f : Framing} {bytes frame : List ℕ} {held i j : ℕ} {now : List ℕ} → i ≡ j
-    → Laid f bytes frame held i now → Laid f bytes frame held j now
-laid_count {f} {bytes} {frame} {held} e l = record {
-  went = subst (Went f bytes) e l.went;
-  is = l.is ∙ ap (paste frame held (plain_of f bytes)) e;
-}
-
--- so many were stored as are taken
-pub laid_taken : (frame P : List ℕ) (held i most : ℕ) → i ≤ length P → i ≤ most → (length P ≤ i) ⊎ (most ≤ i)
-    → Lays held frame (take most P) i (paste frame held P i)
-laid_taken frame P held i most there few all =
-    let same : take i P ≡ take most P = by_all all in
-    let n : length (take most P) ≡ i = ap length (sym same) ∙ length-take-le i P there in
-    record { count = sym n; lays = rw (same, n) }
-  where
-    by_all : (length P ≤ i) ⊎ (most ≤ i) → take i P ≡ take most P
-    by_all (inl h) = take_all i P h ∙ sym (take_all most P (omega arith))
-    by_all (inr h) = let e : i ≡ most = omega arith in ap (λ k. take k P) e
-
-pub laid_lays : {f : Framing} {bytes frame : List ℕ} {held i : ℕ} {now : List ℕ} (most : ℕ)
-    → Laid f bytes frame held i now → i ≤ most → (length (plain_of f bytes) ≤ i) ⊎ (most ≤ i)
-    → Lays held frame (take most (plain_of f bytes)) i now
-laid_lays {f} {bytes} {frame} {held} {i} most l few all =
-    let t = laid_taken frame (plain_of f bytes) held i most l.went.some few all in
-    record { count = t.count; lays = l.is ∙ t.lays }
+      by_all : (length P ≤ i) ⊎ (most ≤ i) → take i P ≡ take most P
+      by_all (inl h) = take_all i P h ∙ sym (take_all most P (omega arith))
+      by_all (inr h) = let e : i ≡ most = omega arith in ap (λ k. take k P) e
 
 -- and the other way round
-pub taken_laid : {f g : Framing} {bytes frame now after : List ℕ} {held i r : ℕ} → f ≡ g → now ≡ after → i ≡ r
-    → Lays held frame (take r (plain_of g bytes)) r after → Laid f bytes frame held i now
-taken_laid {f} {g} {bytes} {frame} {now} {after} {held} {i} {r} e k n l =
-    let P = plain_of g bytes in
+pub taken_laid : {f : Framing} {bytes room after : List ℕ} {r : ℕ} → Lays room (take r (plain_of f bytes)) r after
+    → Laid f bytes room r after
+taken_laid {f} {bytes} {room} {after} {r} l =
+    let P = plain_of f bytes in
     let there : r ≤ length P = omega (arith, l.count, length-take r P) in
-    let same = laid_taken frame P held r r there (omega arith) (inr (omega arith)) in
-    rw (e, k, n) (record { went = went g bytes r there; is = l.lays ∙ sym same.lays })
+    record { went = went f bytes r there; is = l.lays ∙ rw (sym l.count) }
 
 -- ---- what an open frame takes
 
 -- a frame of a length that is read
-pub growth_run : (f : Framing) (n : ℕ) (frame bytes : List ℕ) → Roomy n frame
+growth_run : (f : Framing) (n : ℕ) (frame bytes : List ℕ) → n ≤ longest + 3 → longest + 3 ≤ length frame
     → length_ok (length_of n frame (plain_of f bytes)) ≡ true
     → take (length_of n frame (plain_of f bytes) + beyond f - n) (plain_of f bytes) ≡ growth f n frame bytes
 unfolding growth
-growth_run f n frame bytes r k = rw (le-leb n (longest + 3) r.held, le-leb (longest + 3) (length frame) r.size, k)
+growth_run f n frame bytes h j k = rw (le-leb n (longest + 3) h, le-leb (longest + 3) (length frame) j, k)
 
 -- of any other, and where there is no room
 none_taken : (t s : Bool) (l : List ℕ) → s ≡ false → cond (t && s) l [] ≡ []
 none_taken true s l e = rw e
 none_taken false s l e = refl
 
-pub growth_bad : (f : Framing) (n : ℕ) (frame bytes : List ℕ) → length_ok (length_of n frame (plain_of f bytes)) ≡ false
+growth_bad : (f : Framing) (n : ℕ) (frame bytes : List ℕ) → length_ok (length_of n frame (plain_of f bytes)) ≡ false
     → growth f n frame bytes ≡ []
 unfolding growth
 growth_bad f n frame bytes k =
     none_taken (roomy n frame) _ (take (length_of n frame (plain_of f bytes) + beyond f - n) (plain_of f bytes)) k
 
-pub growth_narrow : (f : Framing) (n : ℕ) (frame bytes : List ℕ) → roomy n frame ≡ false → growth f n frame bytes ≡ []
+growth_narrow : (f : Framing) (n : ℕ) (frame bytes : List ℕ) → roomy n frame ≡ false → growth f n frame bytes ≡ []
 unfolding growth
 growth_narrow f n frame bytes k = rw k
-
--- fewer than two characters are no byte
-pub one_character : (bytes : List ℕ) → length bytes < 2 → plain_of Ascii bytes ≡ []
-unfolding pairs digits_of
-one_character [] h = refl
-one_character (c ∷ []) h = by_value (value_of c)
-  where
-    by_value : (v : Option ℕ) → pairs (and_digit v []) ≡ []
-    by_value none = refl
-    by_value (some d) = refl
-one_character (c ∷ d ∷ bytes) h = absurd (omega arith)
 
 -- laying nothing
 pub laid_none : (frame : List ℕ) (n : ℕ) → frame ≡ laid frame n []
 laid_none frame n = paste-zero frame n []
 
--- ---- the next of them, as code looks at it
-
-next_none : {plain : List ℕ} → plain ≡ [] → Next plain 256
-next_none e = record { first = sym (ap (λ l. get_or l 0 256) e); none = λ h. e }
-
-next_some : {plain : List ℕ} (x : ℕ) (xs : List ℕ) → plain ≡ x ∷ xs → x ≤ 255 → Next plain x
-next_some x xs e h = record { first = sym (ap (λ l. get_or l 0 256) e); none = λ k. absurd (omega arith) }
-
-module _ (bytes : List ℕ) (at : ℕ) where
-  pub stand_end : length bytes ≤ at → Next (plain_of Binary (drop at bytes)) 256
-  unfolding standing
-  stand_end h = next_none (ap standing (drop_of_length-le bytes h))
-
-  stand_here : at < length bytes
-      → plain_of Binary (drop at bytes) ≡ cond (stands (get_or bytes at 0))
-      (get_or bytes at 0 ∷ standing (drop (suc at) bytes)) []
-  unfolding standing
-  stand_here h = ap standing (drop-cons bytes at 0 h)
-
-  pub stand_one : at < length bytes → stands (get_or bytes at 0) ≡ true → get_or bytes at 0 ≤ 255
-      → Next (plain_of Binary (drop at bytes)) (get_or bytes at 0)
-  stand_one h s k = next_some (get_or bytes at 0) (standing (drop (suc at) bytes)) (stand_here h ∙ rw s) k
-
-  pub stand_not : at < length bytes → stands (get_or bytes at 0) ≡ false → Next (plain_of Binary (drop at bytes)) 256
-  stand_not h s = next_none (stand_here h ∙ rw s)
-
-  -- two characters
-  abbrev c : ℕ
-  c = get_or bytes at 0
-
-  abbrev d : ℕ
-  d = get_or bytes (at + 1) 0
-
-  pub pair_end : length bytes - at < 2 → Next (plain_of Ascii (drop at bytes)) 256
-  pair_end h = next_none (one_character (drop at bytes) (omega (arith, length-drop at bytes)))
-
-  two_here : at + 2 ≤ length bytes
-      → plain_of Ascii (drop at bytes) ≡ pairs
-      (and_digit (value_of c) (and_digit (value_of d) (digits_of (drop (suc (at + 1)) bytes))))
-  unfolding digits_of
-  two_here h =
-      ap (λ l. pairs (digits_of l))
-      (drop-cons bytes at 0 (omega arith) ∙ ap (λ k. c ∷ drop k bytes) (sym (add-one at))
-      ∙ ap (λ l. c ∷ l) (drop-cons bytes (at + 1) 0 (omega arith)))
-
-  no_high : (v : Option ℕ) (ds : List ℕ) → value_of c ≡ v → 16 ≤ or_none v → pairs (and_digit v ds) ≡ []
-  unfolding pairs
-  no_high none ds e h = refl
-  no_high (some x) ds e h = absurd (omega (arith, (digit_value c x e).small))
-
-  pub pair_high : at + 2 ≤ length bytes → 16 ≤ digit_in c → Next (plain_of Ascii (drop at bytes)) 256
-  pair_high h k =
-      next_none (two_here h ∙ no_high (value_of c) (and_digit (value_of d) (digits_of (drop (suc (at + 1)) bytes))) refl k)
-
-  no_low : (v w : Option ℕ) (ds : List ℕ) → value_of d ≡ w → 16 ≤ or_none w → pairs (and_digit v (and_digit w ds)) ≡ []
-  unfolding pairs
-  no_low none w ds e h = refl
-  no_low (some x) none ds e h = refl
-  no_low (some x) (some y) ds e h = absurd (omega (arith, (digit_value d y e).small))
-
-  pub pair_low : at + 2 ≤ length bytes → 16 ≤ digit_in d → Next (plain_of Ascii (drop at bytes)) 256
-  pair_low h k = next_none (two_here h ∙ no_low (value_of c) (value_of d) (digits_of (drop (suc (at + 1)) bytes)) refl k)
-
-  both_digits : (v w : Option ℕ) (ds : List ℕ) → or_none v < 16 → or_none w < 16
-      → pairs (and_digit v (and_digit w ds)) ≡ (or_none v * 16 + or_none w) ∷ pairs ds
-  unfolding pairs
-  both_digits none w ds h k = absurd (omega arith)
-  both_digits (some x) none ds h k = absurd (omega arith)
-  both_digits (some x) (some y) ds h k = refl
-
-  pub pair_both : at + 2 ≤ length bytes → digit_in c < 16 → digit_in d < 16
-      → Next (plain_of Ascii (drop at bytes)) (digit_in c * 16 + digit_in d)
-  pair_both h j k =
-      let ds = digits_of (drop (suc (at + 1)) bytes) in
-      next_some (digit_in c * 16 + digit_in d) (pairs ds) (two_here h ∙ both_digits (value_of c) (value_of d) ds j k)
-      (omega arith)
-
--- ---- the length byte
-
--- it is held
-pub first_held : (n : ℕ) (frame plain : List ℕ) → (n ≡ 0 → ⊥) → 0 < length frame
-    → get_or frame 0 0 ≡ length_of n frame plain
-first_held zero frame plain h k = absurd (h refl)
-first_held (suc n) [] plain h k = absurd (omega arith)
-first_held (suc n) (L ∷ frame) plain h k = refl
-
--- it is not held: the first plain byte, or none
-module _ (f : Framing) (n : ℕ) (frame bytes : List ℕ) (x : ℕ) (e : n ≡ 0)
-    (w : Next (plain_of f (drop (span f 0) bytes)) x) where
-  all : drop (span f 0) bytes ≡ bytes
-  all = ap (λ k. drop k bytes) (span_none f)
-
-  pub first_comes : x ≤ 255 → x ≡ length_of n frame (plain_of f bytes)
-  first_comes h = by_plain (plain_of f bytes) refl ∙ ap (λ k. length_of k frame (plain_of f bytes)) (sym e)
-    where
-      by_plain : (l : List ℕ) → plain_of f bytes ≡ l → x ≡ get_or l 0 0
-      by_plain [] k =
-          absurd (omega (arith, w.first ∙ ap (λ b. get_or (plain_of f b) 0 256) all ∙ ap (λ l. get_or l 0 256) k))
-      by_plain (y ∷ l) k = w.first ∙ ap (λ b. get_or (plain_of f b) 0 256) all ∙ ap (λ l. get_or l 0 256) k
-
-  pub none_comes : 255 < x → 0 ≡ length_of n frame (plain_of f bytes)
-  none_comes h =
-      let none : plain_of f bytes ≡ [] = ap (plain_of f) (sym all) ∙ w.none h in
-      rw (e, none)
-
-pub growth_few : (f : Framing) (n : ℕ) (frame bytes : List ℕ) → length (growth f n frame bytes) ≤ longest + 3
-unfolding growth
-growth_few f n frame bytes = by_test (roomy n frame) (length_ok (length_of n frame (plain_of f bytes))) refl
-  where
-    by_test : (t s : Bool) → length_ok (length_of n frame (plain_of f bytes)) ≡ s
-        → length (cond (t && s)
-        (take (length_of n frame (plain_of f bytes) + beyond f - n) (plain_of f bytes)) []) ≤ longest + 3
-    by_test true true e =
-        let L = length_of n frame (plain_of f bytes) in
-        omega (arith, length-take (L + beyond f - n) (plain_of f bytes), beyond_few f, (length_ok_lem L e).few)
-    by_test true false e = omega arith
-    by_test false s e = omega arith
-
 -- ---- what code does is that
 
+-- the length byte is what the bytes that are held begin with, or else the plain ones
+length_some : (l : List ℕ) (L : ℕ) → Some L ≡ slice_get l 0 → L ≡ get_or l 0 0
+length_some [] L e = cc
+length_some (x ∷ l) L e = cc
+
+-- laid in the room that is left for them, they are laid after the n that are held
+room_laid : (n e : ℕ) (frame plain now : List ℕ) (r : ℕ) → n ≤ e → e ≤ length frame
+    → Lays (take (e - n) (drop n frame)) (take (length (take (e - n) (drop n frame))) plain) r now
+    → (r ≡ length (take (e - n) plain)) × (put_mid n (e - n) frame now ≡ laid frame n (take (e - n) plain))
+room_laid n e frame plain now r held size l =
+    let k = e - n in
+    let d = drop n frame in
+    let more = take k plain in
+    let room : length (take k d) ≡ k = length-take-le k d (omega (arith, length-drop n frame)) in
+    let few : length more ≤ length (take k d) = omega (arith, length-take k plain) in
+    let is : now ≡ more ++ drop (length more) (take k d) = l.lays ∙ rw room in (
+      l.count ∙ rw room,
+      ap (λ x. take n frame ++ (x ++ drop k d)) is
+          ∙ ap (λ x. take n frame ++ x) (append_assoc more (drop (length more) (take k d)) (drop k d)
+          ∙ ap (λ x. more ++ x) (sym (drop-append-le (length more) (take k d) (drop k d) few)
+          ∙ ap (drop (length more)) (take-append-drop k d) ∙ drop-drop (length more) n frame))
+          ∙ sym (append_assoc (take n frame) more (drop (n + length more) frame)),
+    )
+
 module _ (f : Framing) (n : ℕ) (frame bytes : List ℕ) where
-  -- a run of a frame whose length is L
-  pub run_grows : (L r : ℕ) (after : List ℕ) → Roomy n frame → L ≡ length_of n frame (plain_of f bytes)
-      → length_ok L ≡ true
-      → Lays n frame (take (L + beyond f - n) (plain_of f bytes)) r after → Lays n frame (growth f n frame bytes) r after
-  run_grows L r after room e k w =
-      let known : length_ok (length_of n frame (plain_of f bytes)) ≡ true = ap length_ok (sym e) ∙ k in
-      let same = ap (λ x. take (x + beyond f - n) (plain_of f bytes)) e ∙ growth_run f n frame bytes room known in
-      record { count = w.count ∙ ap length same; lays = w.lays ∙ ap (laid frame n) same }
-
-  grows_none : growth f n frame bytes ≡ [] → Lays n frame (growth f n frame bytes) 0 frame
-  grows_none e = rw e (record { count = refl; lays = laid_none frame n })
-
-  pub bad_grows : (L : ℕ) → L ≡ length_of n frame (plain_of f bytes) → length_ok L ≡ false
-      → Lays n frame (growth f n frame bytes) 0 frame
-  bad_grows L e k = grows_none (growth_bad f n frame bytes (ap length_ok (sym e) ∙ k))
-
-  pub takes_grown : (r used : ℕ) (after : List ℕ) → Lays n frame (growth f n frame bytes) r after → used ≡ span f r
-      → TakesPlain f n frame bytes (record { count = r; used = used }) after
-  takes_grown r used after w e = record { count = w.count; used = e ∙ ap (span f) w.count; lays = w.lays }
-
-  pub takes_none : growth f n frame bytes ≡ [] → TakesPlain f n frame bytes (record { count = 0; used = 0 }) frame
-  takes_none e = record {
-    count = sym (ap length e);
-    used = sym (ap (λ l. span f (length l)) e ∙ span_none f);
+  pub takes_none : (taken : Taken) → (taken.count ≡ 0) × (taken.used ≡ 0) → growth f n frame bytes ≡ []
+      → TakesPlain f n frame bytes taken frame
+  takes_none taken z e = record {
+    count = z.0 ∙ sym (ap length e);
+    used = z.1 ∙ sym (ap (λ l. span f (length l)) e ∙ span_none f);
     lays = laid_none frame n ∙ ap (laid frame n) (sym e);
   }
 
-  pub takes_short : length frame < longest + 3 → growth f n frame bytes ≡ []
-  takes_short h = growth_narrow f n frame bytes (by_held (leb n (longest + 3)))
+  -- there is no room
+  pub takes_narrow : (length frame < longest + 3) ⊎ ((longest + 3 ≤ length frame) × (longest + 3 < n))
+      → growth f n frame bytes ≡ []
+  takes_narrow (inl h) = growth_narrow f n frame bytes (by_held (leb n (longest + 3)))
     where
       by_held : (t : Bool) → (t && leb (longest + 3) (length frame)) ≡ false
       by_held true = lt-leb (longest + 3) (length frame) h
       by_held false = refl
+  takes_narrow (inr h) = growth_narrow f n frame bytes (rw (lt-leb n (longest + 3) h.1))
 
-  pub takes_wide : longest + 3 < n → growth f n frame bytes ≡ []
-  takes_wide h = growth_narrow f n frame bytes (rw (lt-leb n (longest + 3) h))
+  -- the length is none that is read, or has not come
+  pub takes_bad : (L : ℕ) → Some L ≡ slice_get (take n frame ++ plain_of f bytes) 0 → length_ok L ≡ false
+      → growth f n frame bytes ≡ []
+  takes_bad L e k = growth_bad f n frame bytes (ap length_ok (sym (length_some _ L e)) ∙ k)
+
+  pub takes_unknown : None ≡ slice_get (take n frame ++ plain_of f bytes) 0 → growth f n frame bytes ≡ []
+  takes_unknown e = growth_bad f n frame bytes (ap (λ l. length_ok (get_or l 0 0)) (got_none _ e))
+
+  -- it is L, and with it the room up to the byte that decides
+  pub takes_run : (L end r used : ℕ) (now : List ℕ) → end ≡ L + beyond f → used ≡ span f r → n ≤ longest + 3
+      → longest + 3 ≤ length frame
+      → Some L ≡ slice_get (take n frame ++ plain_of f bytes) 0 → length_ok L ≡ true → n ≤ end
+      → (let room : List ℕ = take (end - n) (drop n frame) in
+      Lays room (take (length room) (plain_of f bytes)) r now)
+      → TakesPlain f n frame bytes (record { count = r; used = used }) (put_mid n (end - n) frame now)
+  takes_run L end r used now at u held size e k left l =
+      let is = length_some _ L e in
+      let few = (length_ok_lem L k).few in
+      let grown = ap (λ x. take (x - n) (plain_of f bytes)) (at ∙ ap (λ x. x + beyond f) is)
+      ∙ growth_run f n frame bytes held size (ap length_ok (sym is) ∙ k) in
+      let t = room_laid n end frame (plain_of f bytes) now r left (omega (arith, at, beyond_few f)) l in
+      let count = t.0 ∙ ap length grown in
+      record { count = count; used = u ∙ ap (span f) count; lays = t.1 ∙ ap (laid frame n) grown }
+
+  -- and all that it takes stand there
+  pub takes_all : (L : ℕ) → n ≤ longest + 3 → longest + 3 ≤ length frame
+      → Some L ≡ slice_get (take n frame ++ plain_of f bytes) 0 → length_ok L ≡ true → L + beyond f ≤ n
+      → growth f n frame bytes ≡ []
+  takes_all L held size e k full =
+      let is = length_some _ L e in
+      let none : L + beyond f - n ≡ 0 = omega arith in
+      sym (growth_run f n frame bytes held size (ap length_ok (sym is) ∙ k))
+      ∙ ap (λ x. take (x + beyond f - n) (plain_of f bytes)) (sym is) ∙ ap (λ x. take x (plain_of f bytes)) none
 
 -- ---- for the reader
 
@@ -444,3 +389,14 @@ within f (suc k) bs (x ∷ plain) e h =
     let later = within f k (drop (span f 1) bs) plain a.rest (omega arith) in
     let n : span f 1 + span f k ≡ span f (suc k) = span_more f 1 k ∙ ap (span f) (omega arith) in
     omega (arith, n, later, a.within, length-drop (span f 1) bs)
+
+-- bytes are laid after the n that are held, and counted
+pub record LaidAfter (n : ℕ) (frame more : List ℕ) (r : ℕ) (after : List ℕ) : Type 0 where
+  pub count : r ≡ length more
+  pub lays : after ≡ laid frame n more
+
+-- those that a frame takes, with their number and how many bytes of the line they are
+pub takes_grown : (f : Framing) (n : ℕ) (frame bytes : List ℕ) (r used : ℕ) (after : List ℕ)
+    → LaidAfter n frame (growth f n frame bytes) r after → used ≡ span f r
+    → TakesPlain f n frame bytes (record { count = r; used = used }) after
+takes_grown f n frame bytes r used after w e = record { count = w.count; used = e ∙ ap (span f) w.count; lays = w.lays }

@@ -13,6 +13,8 @@ use Rattle.frames.proofs.before_start.Kinds as before-start-kinds
 use Rattle.frames.proofs.before_start.Reads as before-start
 use Rattle.frames.proofs.digit.Kinds as digit-kinds
 use Rattle.frames.proofs.digit.Reads as digit
+use Rattle.frames.proofs.beyond.Kinds as beyond-kinds
+use Rattle.frames.proofs.beyond.Reads as beyond
 use Rattle.frames.proofs.take_plain.Kinds as take-plain-kinds
 use Rattle.frames.proofs.take_plain.Reads as take-plain
 use Rattle.frames.proofs.plain.Kinds as plain-kinds
@@ -30,9 +32,13 @@ pub before_start_unique : (κs : Lfts 1) (a : Dens κs before-start-kinds.ps)
     → before-start.Post κs a x e → before-start.Post κs a y e → x ≡ y
 before_start_unique κs a e x y p q = p ∙ sym q
 
+pub beyond_unique : (κs : Lfts 0) (a : Dens κs beyond-kinds.ps) (e : AtExit (ended_of 0 beyond-kinds.ps beyond-kinds.r) κs)
+    (x y : (res_t beyond-kinds.r κs).Denot) → beyond.Post κs a x e → beyond.Post κs a y e → x ≡ y
+beyond_unique κs a e x y p q = p ∙ sym q
+
 pub digit_unique : (κs : Lfts 0) (a : Dens κs digit-kinds.ps) (e : AtExit (ended_of 0 digit-kinds.ps digit-kinds.r) κs)
     (x y : (res_t digit-kinds.r κs).Denot) → digit.Post κs a x e → digit.Post κs a y e → x ≡ y
-digit_unique κs a e x y p q = p ∙ sym q
+digit_unique κs a e x y p q = p.0 ∙ sym q.0
 
 pub plain_unique : (κs : Lfts 0) (a : Dens κs plain-kinds.ps) (e : AtExit (ended_of 0 plain-kinds.ps plain-kinds.r) κs)
     (x y : (res_t plain-kinds.r κs).Denot) → plain.Post κs a x e → plain.Post κs a y e → x ≡ y

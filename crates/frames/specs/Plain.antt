@@ -1,7 +1,8 @@
 -- The bytes of a frame that stand plainly on the line, and those that an open frame takes at once. That a reader which
 -- steps through them comes to the same is a law of the crate reader. Assumes nothing.
 use Rattle.std.specs.Prelude.{◌≡◌, ℕ, ◌+◌, ◌-◌, ◌*◌, Bool, cond, ◌&&◌, ◌||◌, List, [], ◌∷◌, ◌++◌, length, take, nat_le, nat_lt, slice_index}
-use Rattle.std.proofs.Math.Option.{Option, none, some}
+use Rattle.std.specs.Prelude.{Option, Some, None}
+use Rattle.std.proofs.Math.Option.{Option as Maybe, none, some}
 use Rattle.standard.specs.declared.Framing.{Framing}
 use Rattle.standard.specs.declared.Framing.TheVariants.{Binary, Ascii}
 use Rattle.standard.specs.Words.{laid}
@@ -10,12 +11,25 @@ use Rattle.standard.specs.Framing.{value_of, digits_of, pairs}
 use Rattle.frames.specs.declared.Taken.{Taken}
 
 -- a digit's value, or 16 where there is none
-abbrev pub or_none : Option ℕ → ℕ
+abbrev pub or_none : Maybe ℕ → ℕ
 or_none none = 16
 or_none (some d) = d
 
 abbrev pub digit_in : ℕ → ℕ
 digit_in c = or_none (value_of c)
+
+-- the same as code says it
+abbrev pub said_value : Maybe ℕ → Option ℕ
+said_value none = None
+said_value (some d) = Some d
+
+abbrev pub digit_of : ℕ → Option ℕ
+digit_of c = said_value (value_of c)
+
+-- the number of what is said, which is `digit_in`
+abbrev pub number_of : Option ℕ → ℕ
+number_of None = 16
+number_of (Some d) = d
 
 -- neither 7Dh nor 7Eh
 abbrev pub stands : ℕ → Bool

@@ -1,16 +1,16 @@
 -- Laws of a header: its lines, as the parts that code puts between the numbers, and its length. Assumes nothing.
-use Prim.Native.Nat.{ℕ, ◌+◌, ◌≤◌}
+use Prim.Native.Nat.{ℕ, ◌≤◌}
 use native.Mathlib.Omega.{arith}
 use mathlib.Core.Path.{◌≡◌}
 use mathlib.Core.List.{List, [], ◌∷◌, ◌++◌, append_assoc}
-use lib.ListN.{length, length-append}
+use lib.ListN.{length}
+use Rattle.puts.specs.declared.Out.{Out}
+use Rattle.puts.specs.Out.{Puts}
 use Rattle.grid.specs.declared.Level.{Level}
 use Rattle.grid.specs.declared.Level.TheVariants.{Sixteen, Eight, Four, Two, One}
-use Rattle.standard.specs.Words.{Put, PutIfFits}
 use Rattle.standard.specs.Text.{characters}
 use Rattle.standard.specs.Report.{decimal}
-use Rattle.standard.proofs.Put.{put_then, put_length, fits_put}
-use Rattle.grid.specs.Grid.{header_with, header_of}
+use Rattle.grid.specs.Grid.{wide, side, header_with, header_of}
 
 -- ---- the four texts between the numbers, and the three numbers
 
@@ -49,43 +49,12 @@ header_texts w n =
     (characters "byteorder LSBFIRST")
     (0x0A ∷ [])
 
--- a part put behind what was put, where there is room for it
-pub put_on : {l l' l'' a b : List ℕ} {i n m : ℕ} → Put l i a l' n → PutIfFits l' n b l'' m
-    → i + length a + length b ≤ length l → Put l i (a ++ b) l'' m
-put_on {l} {l'} {l''} {a} {b} {i} {n} {m} p q h =
-    let long = put_length p in
-    let end = p.end in
-    put_then p (fits_put q (omega arith))
-
--- seven parts, where there is room for all
-put_seven : {l₀ l₁ l₂ l₃ l₄ l₅ l₆ l₇ : List ℕ} {a b c d e f g : ℕ} (A B C D E F G : List ℕ)
-    → length (A ++ B ++ C ++ D ++ E ++ F ++ G) ≤ length l₀
-    → PutIfFits l₀ 0 A l₁ a → PutIfFits l₁ a B l₂ b → PutIfFits l₂ b C l₃ c → PutIfFits l₃ c D l₄ d
-    → PutIfFits l₄ d E l₅ e → PutIfFits l₅ e F l₆ f → PutIfFits l₆ f G l₇ g
-    → Put l₀ 0 (A ++ B ++ C ++ D ++ E ++ F ++ G) l₇ g
-put_seven A B C D E F G h p q r s t u v =
-    let long = simp length-append at h in
-    let one = fits_put p (omega (arith, long)) in
-    let two = put_on one q (omega (arith, long)) in
-    let three = put_on two r (simp length-append (omega (arith, long))) in
-    let four = put_on three s (simp length-append (omega (arith, long))) in
-    let five = put_on four t (simp length-append (omega (arith, long))) in
-    let six = put_on five u (simp length-append (omega (arith, long))) in
-    put_on six v (simp length-append (omega (arith, long)))
-
 -- so the header, as code puts it
-pub put_texts : {l₀ l₁ l₂ l₃ l₄ l₅ l₆ l₇ : List ℕ} {a b c d e f g : ℕ} (w n : ℕ)
-    → length (header_with w n) ≤ length l₀
-    → PutIfFits l₀ 0 columns_text l₁ a → PutIfFits l₁ a (decimal w) l₂ b → PutIfFits l₂ b rows_text l₃ c
-    → PutIfFits l₃ c (decimal w) l₄ d → PutIfFits l₄ d corners_text l₅ e → PutIfFits l₅ e (decimal n) l₆ f
-    → PutIfFits l₆ f end_text l₇ g → Put l₀ 0 (header_with w n) l₇ g
-put_texts w n h p q r s t u v =
-    rw (header_texts w n)
-    (put_seven columns_text (decimal w) rows_text (decimal w) corners_text (decimal n) end_text (rw header_texts at h) p q r
-    s
-    t
-    u
-    v)
+pub header_put : {o o' : Out} (level : Level) (w n : ℕ) → w ≡ wide level → n ≡ side level
+    → Puts o (columns_text ++ decimal w ++ rows_text ++ decimal w ++ corners_text ++ decimal n ++ end_text) o'
+    → Puts o (header_of level) o'
+unfolding header_of
+header_put level w n e f p = rw header_texts (rw (e, f) at p)
 
 -- ---- lengths
 

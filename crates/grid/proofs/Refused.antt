@@ -1,8 +1,8 @@
 -- Laws of a grid's refusals: what is known past each test, and that 11 and 9 are all there are. Assumes nothing.
 use Prim.Native.Nat.{ℕ, ◌≤◌, ◌<◌}
-use native.Mathlib.Nat.{zero-add, eq-zero-or-pos}
+use native.Mathlib.Nat.{eq-zero-or-pos}
 use native.Mathlib.Omega.{arith}
-use mathlib.Core.Path.{◌≡◌, refl, sym, ◌∙◌}
+use mathlib.Core.Path.{◌≡◌, refl, sym}
 use mathlib.Core.Bool.{Bool, true, false, not, ◌&&◌, ◌||◌}
 use mathlib.Core.Logic.{⊎_elim}
 use mathlib.Core.List.{List, [], ◌∷◌}
@@ -12,8 +12,9 @@ use borrow.Author.Tests.{eq-eqb, ne_eqb, eqb-true, lt-ltb, le-ltb, ltb-false}
 use Rattle.grid.specs.declared.Level.{Level}
 use Rattle.standard.specs.Words.{first_of}
 use Rattle.standard.specs.Table.{table_bytes, is_table}
-use Rattle.standard.specs.Words.{Put}
-use Rattle.standard.proofs.Put.{put_laid}
+use Rattle.standard.specs.Words.{laid}
+use Rattle.standard.specs.Questions.{table_refusal}
+use Rattle.standard.proofs.Questions.{whole_asked}
 use Rattle.standard.proofs.Refusals.{first_in}
 use Rattle.grid.specs.Grid.{header_of, cells_of, grid_tests, grid_refusal, gridded_of, Grids}
 use Rattle.grid.proofs.Rows.{cells_bytes, cells_most_lem}
@@ -28,6 +29,11 @@ pub record Room (t : List ℕ) (level : Level) (header cells : ℕ) : Type 0 whe
 module _ (t : List ℕ) (level : Level) (header cells : ℕ) where
   pub no_table : (length t ≡ table_bytes → ⊥) → first_of (grid_tests t level header cells) ≡ 11
   no_table h = rw (ne_eqb (length t) table_bytes h)
+
+  -- which is the number of every question about the table
+  pub refused : (table_refusal t ≡ 0 → ⊥) → first_of (grid_tests t level header cells) ≡ table_refusal t
+  unfolding table_refusal
+  refused h = rw (ne_eqb (length t) table_bytes (λ e. h (whole_asked t e)))
 
   pub short_header : length t ≡ table_bytes → header < length (header_of level)
       → first_of (grid_tests t level header cells) ≡ 9
@@ -83,18 +89,16 @@ module _ (t : List ℕ) (level : Level) (header cells : List ℕ) where
       let no = ne_eqb number 0 h in
       record { says = rw (← e, no); heads = rw (← e, no); leaves = rw (← e, no) }
 
-  -- what was put at the beginnings of both is the grid
+  -- what is laid at the beginnings of both is the grid
   pub gives : grid_refusal t level header cells ≡ 0 → {header' cells' : List ℕ} {h c : ℕ}
-      → Put header 0 (header_of level) header' h → Put cells 0 (cells_of t level) cells' c
+      → (h ≡ length (header_of level)) × (header' ≡ laid header 0 (header_of level))
+      → (c ≡ length (cells_of t level)) × (cells' ≡ laid cells 0 (cells_of t level))
       → Grids t level header cells (record { number = 0; header = h; cells = c }) header' cells'
-  gives z p q =
-      let fits = taken z in
-      let h = p.end ∙ zero-add (length (header_of level)) in
-      let c = q.end ∙ zero-add (length (cells_of t level)) in
+  gives z heads leaves =
       record {
-        says = rw z (λ i. record { number = 0; header = h i; cells = c i });
-        heads = rw z (put_laid p (omega (arith, fits.heads)));
-        leaves = rw z (put_laid q (omega (arith, fits.leaves)));
+        says = rw z (λ i. record { number = 0; header = heads.0 i; cells = leaves.0 i });
+        heads = rw z heads.1;
+        leaves = rw z leaves.1;
       }
 
   -- the answer's number is the refusal's

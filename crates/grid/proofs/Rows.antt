@@ -1,6 +1,6 @@
 -- Laws of cells one after another: four bytes each, and each a number or "not heard". Assumes nothing.
 use Prim.Native.Nat.{ℕ, zero, suc, ◌+◌, ◌*◌, ◌≤◌, ◌<◌}
-use native.Mathlib.Nat.{mul_comm, suc-mul, mul-suc, mul-le-mul_left, mul-le-mul_right}
+use native.Mathlib.Nat.{mul_comm, suc-mul, mul-suc, mul-le-mul_left}
 use native.Mathlib.Numerals.{add-one}
 use native.Mathlib.Omega.{arith}
 use mathlib.Core.Path.{◌≡◌, refl, sym, ap, ap₂, ◌∙◌, subst}
@@ -9,16 +9,17 @@ use mathlib.Core.Option.{Option, none, some}
 use mathlib.Core.List.{List, [], ◌∷◌, ◌++◌, flat_map, append-nil}
 use lib.Dec.{T}
 use lib.Ieee.{Float, binary32}
-use lib.ListN.{length, get_or, set, length-append}
-use lib.Seq.{sets, take_all}
+use lib.ListN.{length, length-append}
+use Rattle.puts.specs.declared.Out.{Out}
+use Rattle.puts.specs.Out.{Puts}
+use Rattle.puts.proofs.Puts.{puts_then}
 use Rattle.grid.specs.declared.Level.{Level}
 use Rattle.grid.specs.declared.Level.TheVariants.{Sixteen, Eight, Four, Two, One}
-use Rattle.standard.specs.Words.{up_to, Put}
+use Rattle.standard.specs.Words.{up_to}
 use Rattle.standard.proofs.Words.{flat_map_append, up_to_more}
-use Rattle.standard.proofs.Put.{put_then, listed, part_listed}
 use Rattle.standard.proofs.Shares.{share_fair_in}
-use Rattle.grid.specs.Grid.{wide, side, heard_in, faulted_in, share_at, bytes_of, row_of, cells_of}
-use Rattle.grid.specs.Cells.{is_number, row_at, cells_at}
+use Rattle.grid.specs.Grid.{wide, side, heard_in, faulted_in, share_at, cell_of, bytes_of, row_of, cells_of}
+use Rattle.grid.specs.Cells.{is_number}
 use Rattle.grid.proofs.Blocks.{block_bounded}
 
 -- ---- a cell
@@ -37,22 +38,6 @@ cell_number_lem t n top left h = go (share_at t n top left) refl
 pub four_bytes : (o : Option Float) → length (bytes_of o) ≡ 4
 four_bytes none = refl
 four_bytes (some x) = refl
-
--- four stores are a part that is put
-pub put_four : (l : List ℕ) (place : ℕ) (m part : List ℕ) → m ≡ part → length part ≡ 4
-    → Put l place part
-    (set
-    (set (set (set l place (get_or m 0 0)) (place + 1) (get_or m 1 0)) (place + 2) (get_or m 2 0))
-    (place + 3)
-    (get_or m 3 0))
-    (place + 4)
-put_four l place m part e h =
-    let long = ap length e ∙ h in
-    let all : m ≡ listed 4 0 m = sym (take_all 4 m (omega arith)) ∙ part_listed 4 0 m (omega arith) in
-    let one : place + 1 ≡ suc place = omega arith in
-    let two : place + 2 ≡ suc (suc place) = omega arith in
-    let three : place + 3 ≡ suc (suc (suc place)) = omega arith in
-    record { bytes = rw (one, two, three) (ap (sets l place) (sym all ∙ e)); end = ap (λ n. place + n) (sym h) }
 
 -- ---- one after another
 
@@ -77,10 +62,9 @@ flat_below f g (suc n) h =
     ∙ sym (flat_suc g n)
 
 -- the turn of a loop that puts them
-pub put_more : {l l' l'' : List ℕ} {from place next : ℕ} (f : ℕ → List ℕ) (n : ℕ)
-    → Put l from (flat_map f (up_to n)) l' place → Put l' place (f n) l'' next
-    → Put l from (flat_map f (up_to (n + 1))) l'' next
-put_more f n p q = rw (flat_more f n) (put_then p q)
+pub puts_more : {o o' o'' : Out} (f : ℕ → List ℕ) (n : ℕ) → Puts o (flat_map f (up_to n)) o' → Puts o' (f n) o''
+    → Puts o (flat_map f (up_to (n + 1))) o''
+puts_more f n p q = rw (flat_more f n) (puts_then p q)
 
 -- n parts of so many bytes each
 pub flat_length : (f : ℕ → List ℕ) (size : ℕ) → ((i : ℕ) → length (f i) ≡ size) → (n : ℕ)
@@ -90,26 +74,6 @@ flat_length f size each zero = omega arith
 flat_length f size each (suc n) =
     let less = flat_length f size each n in
     rw flat_map_append (simp length-append (rw suc-mul (omega (arith, each n, less))))
-
-pub row_length : (t : List ℕ) (n w top : ℕ) → length (row_at t n w top) ≡ w * 4
-unfolding row_at
-row_length t n w top = flat_length _ 4 (λ column. four_bytes (share_at t n top (n * column))) w
-
-pub cells_length : (t : List ℕ) (n w : ℕ) → length (cells_at t n w) ≡ w * (w * 4)
-unfolding cells_at
-cells_length t n w = flat_length _ (w * 4) (λ row. row_length t n w (n * row)) w
-
--- a block lies in the map: w of them stand side by side in it
-pub inside : (n w k : ℕ) → n * w ≡ 16 → k < w → n * k + n ≤ 16
-inside n w k h b =
-    let most = mul-le-mul_left n b in
-    omega (arith, mul-suc n k, most, h)
-
--- and of w parts of so many bytes each there is room for the next
-pub room_for : (size w k : ℕ) → k < w → k * size + size ≤ w * size
-room_for size w k b =
-    let most = mul-le-mul_right size b in
-    omega (arith, suc-mul k size, most)
 
 -- ---- the levels
 
@@ -128,16 +92,21 @@ wide_some Four = (omega arith, omega arith)
 wide_some Two = (omega arith, omega arith)
 wide_some One = (omega arith, omega arith)
 
--- the cells of a level, as code puts them
-pub cells_are : (t : List ℕ) (level : Level) → cells_of t level ≡ cells_at t (side level) (wide level)
-unfolding cells_of cells_at row_of row_at
-cells_are t level = refl
+-- a block lies in the map: they stand side by side in it
+pub inside : (level : Level) (k : ℕ) → k < wide level → side level * k + side level ≤ 16
+inside level k b =
+    let most = mul-le-mul_left (side level) b in
+    omega (arith, mul-suc (side level) k, most, side_wide level)
 
 -- "rows of .. f32": four bytes each
+pub row_bytes : (t : List ℕ) (level : Level) (row : ℕ) → length (row_of t level row) ≡ wide level * 4
+unfolding row_of
+row_bytes t level row = flat_length _ 4 (λ column. four_bytes (cell_of t level row column)) (wide level)
+
 pub cells_bytes : (t : List ℕ) (level : Level) → length (cells_of t level) ≡ 4 * wide level * wide level
+unfolding cells_of
 cells_bytes t level =
-    ap length (cells_are t level)
-    ∙ cells_length t (side level) (wide level)
+    flat_length _ (wide level * 4) (row_bytes t level) (wide level)
     ∙ ap (λ n. wide level * n) (mul_comm (wide level) 4)
     ∙ mul_comm (wide level) (4 * wide level)
 

@@ -13,7 +13,7 @@ use Rattle.grid.specs.declared.Level.TheVariants.{Sixteen, Eight, Four, Two, One
 use Rattle.standard.specs.Words.{up_to}
 use Rattle.standard.specs.Messages.{among}
 use Rattle.grid.specs.Grid.{wide, side, block_at, cell_of, bytes_of, row_of, cells_of}
-use Rattle.grid.proofs.Rows.{four_bytes, flat_suc, flat_length}
+use Rattle.grid.proofs.Rows.{four_bytes, flat_suc, flat_length, row_bytes}
 
 -- ---- one part of parts that stand one after another
 
@@ -56,10 +56,6 @@ module _ (t : List ℕ) (level : Level) (row column : ℕ) (high : row < wide le
   abbrev cell : ℕ → List ℕ
   cell k = bytes_of (cell_of t level row k)
 
-  row_bytes : (r : ℕ) → length (row_of t level r) ≡ wide level * 4
-  unfolding row_of
-  row_bytes r = flat_length _ 4 (λ k. four_bytes (cell_of t level r k)) (wide level)
-
   place : 4 * (wide level * row + column) ≡ row * (wide level * 4) + column * 4
   place =
       let e : row * (wide level * 4) ≡ wide level * row * 4 =
@@ -71,7 +67,7 @@ module _ (t : List ℕ) (level : Level) (row column : ℕ) (high : row < wide le
       → take 4 (drop (4 * (wide level * row + column)) (cells_of t level ++ more)) ≡ bytes_of (cell_of t level row column)
   unfolding cells_of row_of
   cell_there more =
-      let rows = there (row_of t level) (wide level * 4) row_bytes (wide level) row high more in
+      let rows = there (row_of t level) (wide level * 4) (row_bytes t level) (wide level) row high more in
       let cells = there cell 4 (λ k. four_bytes (cell_of t level row k)) (wide level) column far rows.0 in
       ap (λ (n : ℕ). take 4 (drop n (cells_of t level ++ more))) place
       ∙ ap (take 4)

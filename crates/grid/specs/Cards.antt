@@ -5,11 +5,10 @@ use Prim.Native.String.{String}
 use mathlib.Core.List.{List, [], ◌∷◌, ◌++◌, flat_map}
 use Rattle.grid.specs.declared.Level.{Level}
 use Rattle.grid.specs.declared.Level.TheVariants.{Sixteen, Eight, Four, Two, One}
-use Rattle.grid.specs.declared.Gridded.{Gridded}
 use Rattle.standard.specs.Words.{up_to}
 use Rattle.standard.specs.Text.{characters}
 use Rattle.standard.specs.Table.{fresh, applied_to}
-use Rattle.grid.specs.Grid.{header_of, cells_of, gridded_of, header_after, cells_after}
+use Rattle.grid.specs.Grid.{Filled, header_of, cells_of, gridded_of, header_after, cells_after}
 
 -- ---- headers, "lines .. each ended by 0Ah"
 
@@ -147,12 +146,12 @@ pub record Called : Type 0 where
   pub heads : List ℕ
   pub leaves : List ℕ
 
-abbrev gridded : Gridded → ℕ × ℕ × ℕ
-gridded g = (g.number, g.header, g.cells)
+abbrev filled : Filled → ℕ × ℕ × ℕ
+filled f = (f.number, f.header, f.cells)
 
 abbrev pub called_of : Called → (ℕ × ℕ × ℕ) × List ℕ × List ℕ
 called_of c = (
-  gridded (gridded_of c.table c.level c.header c.cells),
+  filled (gridded_of c.table c.level c.header c.cells),
   header_after c.table c.level c.header c.cells,
   cells_after c.table c.level c.header c.cells,
 )

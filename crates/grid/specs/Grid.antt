@@ -1,16 +1,16 @@
 -- Document 02, No. 8: "Zone maps as float grids". Zones have the paper's numbers here, from 1; rows and columns are
 -- counted from 0, the top row and the leftmost column first. Assumes nothing.
-use Rattle.std.specs.Prelude.{ℕ, ◌+◌, ◌*◌, ◌/◌, ◌%◌, ◌≡◌, Bool, cond, ◌||◌, eqb, ltb, Float, length}
+use Rattle.std.specs.Prelude.{ℕ, ◌+◌, ◌*◌, ◌/◌, ◌%◌, ◌≡◌, Bool, cond, ◌||◌, eqb, ltb, Float, length, Some, None, Result, Ok, Err}
+use Rattle.std.specs.Prelude.{Option as Shared}
 use Rattle.std.proofs.Math.Option.{Option, none, some}
 use mathlib.Core.List.{List, [], ◌∷◌, ◌++◌, map, flat_map}
 use Rattle.std.specs.Float.{binary32}
 use Rattle.std.specs.Float.Ieee.{to_bits}
 use Rattle.grid.specs.declared.Level.{Level}
 use Rattle.grid.specs.declared.Level.TheVariants.{Sixteen, Eight, Four, Two, One}
-use Rattle.grid.specs.declared.Cell.{Cell}
-use Rattle.grid.specs.declared.Cell.TheVariants.{NotHeard}
-use Rattle.grid.specs.declared.Cell.TheVariants.{Share as IsShare}
 use Rattle.grid.specs.declared.Gridded.{Gridded}
+use Rattle.standard.specs.declared.Refusal.{Refusal}
+use Rattle.standard.specs.Refusals.{refusal_number}
 use Rattle.standard.specs.Words.{up_to, total, first_of, laid}
 use Rattle.standard.specs.Text.{characters}
 use Rattle.standard.specs.Table.{table_test}
@@ -60,10 +60,10 @@ heard_cell t level row column = heard_in t (side level) (side level * row) (side
 abbrev pub faulted_cell : List ℕ → Level → ℕ → ℕ → ℕ
 faulted_cell t level row column = faulted_in t (side level) (side level * row) (side level * column)
 
--- a cell's number, and none for "not heard"
-abbrev pub cell_number : Cell → Option Float
-cell_number (IsShare x) = some x
-cell_number NotHeard = none
+-- the number of a share as code has it, and none for "not heard"
+abbrev pub share_number : Shared Float → Option Float
+share_number (Some x) = some x
+share_number None = none
 
 -- ---- "rows of little-endian f32"
 
@@ -115,8 +115,18 @@ grid_tests t level header cells =
 unfoldable pub grid_refusal : List ℕ → Level → List ℕ → List ℕ → ℕ
 grid_refusal t level header cells = first_of (grid_tests t level (length header) (length cells))
 
+-- what a call that makes a grid answers: 0 and both lengths, or the refusal's number and lengths 0
+pub record Filled : Type 0 where
+  pub number : ℕ
+  pub header : ℕ
+  pub cells : ℕ
+
+abbrev pub gridded_in : Result Gridded Refusal → Filled
+gridded_in (Ok g) = record { number = 0; header = g.header; cells = g.cells }
+gridded_in (Err refusal) = record { number = refusal_number refusal; header = 0; cells = 0 }
+
 -- "both lengths are said"; "a refused call's counts and lengths are 0"
-abbrev pub gridded_of : List ℕ → Level → List ℕ → List ℕ → Gridded
+abbrev pub gridded_of : List ℕ → Level → List ℕ → List ℕ → Filled
 gridded_of t level header cells =
     cond (eqb (grid_refusal t level header cells) 0)
     (record { number = 0; header = length (header_of level); cells = length (cells_of t level) })
@@ -132,7 +142,7 @@ cells_after t level header cells =
     cond (eqb (grid_refusal t level header cells) 0) (laid cells 0 (cells_of t level)) cells
 
 -- what `grid` promises: its answer, and every byte of the two buffers
-pub record Grids (t : List ℕ) (level : Level) (header cells : List ℕ) (answer : Gridded) (header' cells' : List ℕ)
+pub record Grids (t : List ℕ) (level : Level) (header cells : List ℕ) (answer : Filled) (header' cells' : List ℕ)
     : Type 0 where
   pub says : answer ≡ gridded_of t level header cells
   pub heads : header' ≡ header_after t level header cells

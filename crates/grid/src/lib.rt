@@ -3,17 +3,18 @@
 // table is known here by what it answers about a run of zones.
 #![tactic(auto)]
 
-ghost use Rattle.std.specs.Prelude.{◌≡◌, ◌+◌, ◌*◌, ◌≤◌, ◌<◌, T, length};
+ghost use Rattle.std.specs.Prelude.{◌≡◌, ◌<◌, T, length};
 ghost use Rattle.std.specs.Float.{binary32};
-ghost use Rattle.standard.specs.Words.{first_of, Put};
+ghost use Rattle.standard.specs.Words.{first_of};
+ghost use Rattle.standard.specs.Refusals.{number_in};
 ghost use Rattle.standard.specs.Table.{table_bytes};
 ghost use Rattle.standard.specs.Overview.{share_in};
-ghost use Rattle.grid.specs.Grid.{heard_in, faulted_in, share_at, cell_number, little_endian, bytes_of};
-ghost use Rattle.grid.specs.Grid.{wide as Grid·wide};
-ghost use Rattle.grid.specs.Grid.{header_with, header_of, grid_tests, Grids};
-ghost use Rattle.grid.specs.Cells.{is_number, row_at, cells_at};
+ghost use Rattle.puts.specs.Out.{Puts};
+ghost use Rattle.grid.specs.Grid.{wide, side, heard_cell, faulted_cell, share_number, bytes_of, row_of, cells_of, header_of, grid_tests, gridded_in, Grids};
+ghost use Rattle.grid.specs.Cells.{is_number};
 
-use standard::Counts;
+use puts::Out;
+use standard::{Counts, Refusal};
 
 // "Each coarser level, 8, 4, 2 and 1 cells wide", and the zones themselves.
 #[derive(Clone, Copy)]
@@ -25,191 +26,160 @@ pub enum Level {
     One,
 }
 
-// "A block or zone with nothing heard is its own case in the pyramid."
-#[derive(Clone, Copy)]
-pub enum Cell {
-    Share(f32),
-    NotHeard,
-}
-
-// 0 and how many bytes of each buffer are the grid's, or the refusal's number and 0.
+// How many bytes of each buffer are the grid's.
 #[derive(Clone, Copy)]
 pub struct Gridded {
-    pub number: u8,
     pub header: usize,
     pub cells: usize,
 }
 
-// How many cells wide a level is.
-fn wide(level: Level) -> u8
-    ensures { result ≡ Grid·wide level }
-{
-    match level {
-        Level::Sixteen => 16,
-        Level::Eight => 8,
-        Level::Four => 4,
-        Level::Two => 2,
-        Level::One => 1,
+impl Level {
+    // How many cells wide it is.
+    fn wide(self) -> u8
+        ensures { result ≡ wide self }
+    {
+        match self {
+            Level::Sixteen => 16,
+            Level::Eight => 8,
+            Level::Four => 4,
+            Level::Two => 2,
+            Level::One => 1,
+        }
+    }
+
+    // How many zones wide the block of a cell is.
+    fn side(self) -> u8
+        ensures { result ≡ side self }
+    {
+        16 / self.wide()
+    }
+
+    // The bytes of its header: 16 alone has two digits.
+    #[tactic(auto, unfolding(crate::specs::Grid::header_of, standard::specs::Text::characters))]
+    fn header_length(self) -> usize
+        ensures { result ≡ length (header_of self) }
+    {
+        match self {
+            Level::Sixteen => 91,
+            Level::Eight | Level::Four | Level::Two => 89,
+            Level::One => 90,
+        }
     }
 }
 
-// The counts of a block of side by side zones: a run of zones in each of its rows.
-fn block(table: &[u8], side: u8, top: u8, left: u8) -> Counts
-    requires table_len { length table.now ≡ table_bytes }
-    requires side_bound { (top + side ≤ 16) × (left + side ≤ 16) }
-    ensures { result ≡ record { heard = heard_in table.now side top left; faulted = faulted_in table.now side top left } }
-{
-    let mut heard: u16 = 0;
-    let mut faulted: u16 = 0;
-    for i in 0..side {
-        let row = overview::run(table, 16 * (top + i) + left, side);
-        heard += row.heard;
-        faulted += row.faulted;
+// A level of the map of a whole table.
+#[derive(Clone, Copy)]
+struct Map<'a> {
+    table: &'a [u8],
+    level: Level,
+    ghost whole: { length table.now ≡ table_bytes },
+}
+
+impl Map<'_> {
+    // The counts of the block of a row and a column: a run of zones in each of the block's rows.
+    fn block(&self, row: u8, column: u8) -> Counts
+        requires { (row < wide self.now.level) × (column < wide self.now.level) }
+        ensures { result ≡ record { heard = heard_cell self.now.table.now self.now.level row column; faulted = faulted_cell self.now.table.now self.now.level row column } }
+    {
+        let side = self.level.side();
+        let (top, left) = (side * row, side * column);
+        let mut heard = 0;
+        let mut faulted = 0;
+        for i in 0..side {
+            let run = overview::run(self.table, 16 * (top + i) + left, side);
+            heard += run.heard;
+            faulted += run.faulted;
+        }
+        Counts { heard, faulted }
     }
-    Counts {
-        heard: heard,
-        faulted: faulted,
+
+    // A row of cells, each of a block.
+    fn put_row(&self, out: &mut Out, row: u8)
+        requires { row < wide self.now.level }
+        ensures { Puts out.old (row_of self.now.table.now self.now.level row) out.new }
+    {
+        for column in 0..self.level.wide() {
+            let share = share_of(self.block(row, column));
+            out.part(&bytes_of(share));
+        }
+    }
+
+    // "Rows", the top one first.
+    fn put_cells(&self, out: &mut Out)
+        ensures { Puts out.old (cells_of self.now.table.now self.now.level) out.new }
+    {
+        for row in 0..self.level.wide() {
+            self.put_row(out, row);
+        }
     }
 }
 
-// f32 holds both counts exactly, so the division is what rounds, once.
-fn cell_of(counts: Counts) -> Cell
-    ensures { cell_number result ≡ share_in binary32 counts.heard counts.faulted }
+// "A block or zone with nothing heard is its own case": none. f32 holds both counts exactly, so the
+// division is what rounds, once.
+fn share_of(counts: Counts) -> Option<f32>
+    ensures { share_number result ≡ share_in binary32 counts.heard counts.faulted }
 {
     if counts.heard == 0 {
-        return Cell::NotHeard;
+        return None;
     }
-    Cell::Share(counts.faulted as f32 / counts.heard as f32)
-}
-
-fn little_endian(n: u32) -> [u8; 4]
-    ensures { result ≡ little_endian n }
-{
-    [
-        (n % 256) as u8,
-        (n / 256 % 256) as u8,
-        (n / 65536 % 256) as u8,
-        (n / 16777216 % 256) as u8,
-    ]
+    Some(counts.faulted as f32 / counts.heard as f32)
 }
 
 // "Minus 9999 only on output, bytes 00 3C 1C C6."
-fn bytes_of(cell: Cell) -> [u8; 4]
-    requires { T (is_number (cell_number cell)) }
-    ensures { result ≡ bytes_of (cell_number cell) }
+fn bytes_of(share: Option<f32>) -> [u8; 4]
+    requires { T (is_number (share_number share)) }
+    ensures { result ≡ bytes_of (share_number share) }
 {
-    match cell {
-        Cell::NotHeard => [0x00, 0x3C, 0x1C, 0xC6],
-        Cell::Share(x) => little_endian(f32::to_bits(x)),
+    match share {
+        None => [0x00, 0x3C, 0x1C, 0xC6],
+        Some(x) => x.to_bits().to_le_bytes(),
     }
-}
-
-// The four bytes of a cell at a place, and the place after them.
-fn put_cell(cells: &mut [u8], place: usize, table: &[u8], side: u8, top: u8, left: u8) -> usize
-    requires table_len { length table.now ≡ table_bytes }
-    requires side_bound { (top + side ≤ 16) × (left + side ≤ 16) }
-    requires place_in_bounds { place + 4 ≤ length cells.old }
-    ensures { Put cells.old place (bytes_of (share_at table.now side top left)) cells.new result }
-{
-    let counts = block(table, side, top, left);
-    let cell = cell_of(counts);
-    let bytes = bytes_of(cell);
-    cells[place] = bytes[0];
-    cells[place + 1] = bytes[1];
-    cells[place + 2] = bytes[2];
-    cells[place + 3] = bytes[3];
-    place + 4
-}
-
-// A row of cells, each of a block of side by side zones.
-fn put_row(cells: &mut [u8], from: usize, table: &[u8], w: u8, side: u8, top: u8) -> usize
-    requires table_len { length table.now ≡ table_bytes }
-    requires w_value { (side * w ≡ 16) × (top + side ≤ 16) }
-    requires w_in_bounds { from + 4 * w ≤ length cells.old }
-    ensures { Put cells.old from (row_at table.now side w top) cells.new result }
-{
-    let mut place = from;
-    for column in 0..w {
-        place = put_cell(cells, place, table, side, top, side * column);
-    }
-    place
-}
-
-// "Rows", the top one first.
-fn put_cells(cells: &mut [u8], table: &[u8], w: u8, side: u8) -> usize
-    requires table_len { length table.now ≡ table_bytes }
-    requires w_value { (side * w ≡ 16) × (length (cells_at table.now side w) ≤ length cells.old) }
-    ensures { Put cells.old 0 (cells_at table.now side w) cells.new result }
-{
-    let mut place = 0;
-    for row in 0..w {
-        place = put_row(cells, place, table, w, side, side * row);
-    }
-    place
 }
 
 // "A text header", whose lines end with 0Ah.
-fn put_header(header: &mut [u8], w: u8, side: u8) -> usize
-    requires { length (header_with w side) ≤ length header.old }
-    ensures { Put header.old 0 (header_with w side) header.new result }
+fn put_header(out: &mut Out, level: Level)
+    ensures { Puts out.old (header_of level) out.new }
 {
-    let a = puts::part(header, 0, b"ncols ");
-    let b = puts::decimal(header, a, w);
-    let c = puts::part(header, b, b"\nnrows ");
-    let d = puts::decimal(header, c, w);
-    let e = puts::part(header, d, b"\nxllcorner 0\nyllcorner 0\ncellsize ");
-    let f = puts::decimal(header, e, side);
-    puts::part(header, f, b"\nNODATA_value -9999\nbyteorder LSBFIRST\n")
+    let wide = level.wide();
+    let side = level.side();
+    out.part(b"ncols ");
+    out.decimal(wide);
+    out.part(b"\nnrows ");
+    out.decimal(wide);
+    out.part(b"\nxllcorner 0\nyllcorner 0\ncellsize ");
+    out.decimal(side);
+    out.part(b"\nNODATA_value -9999\nbyteorder LSBFIRST\n");
 }
 
-// The bytes of a level's header: 16 alone has two digits.
-fn header_length(level: Level) -> usize
-    ensures { result ≡ length (header_of level) }
+// "Refusals: 11, then 9 if either buffer is short."
+fn check(table: &[u8], level: Level, header: usize, cells: usize) -> Result<(), Refusal>
+    ensures { number_in result ≡ first_of (grid_tests table.now level header cells) }
 {
-    match level {
-        Level::Sixteen => 91,
-        Level::Eight => 89,
-        Level::Four => 89,
-        Level::Two => 89,
-        Level::One => 90,
+    table::check(table)?;
+    let wide = level.wide() as usize;
+    if header < level.header_length() || cells < 4 * wide * wide {
+        return Err(Refusal::NoRoom);
     }
-}
-
-// "Refusals: 11, then 9 if either buffer is short": 0, or the number.
-fn refusal(table: &[u8], level: Level, header: usize, cells: usize) -> u8
-    ensures { result ≡ first_of (grid_tests table.now level header cells) }
-{
-    if table::refusal(table) != 0 {
-        return 11;
-    }
-    if header < header_length(level) {
-        return 9;
-    }
-    let w = wide(level) as usize;
-    if cells < 4 * w * w {
-        return 9;
-    }
-    0
+    Ok(())
 }
 
 // The header of a level and its cells at the beginnings of the two buffers, and how many bytes of
-// each they are; or the refusal's number, and both buffers as they were.
-pub fn grid(table: &[u8], level: Level, header: &mut [u8], cells: &mut [u8]) -> Gridded
-    ensures { Grids table.now level header.old cells.old result header.new cells.new }
+// each they are; or why they are refused, and both buffers as they were.
+pub fn grid(
+    table: &[u8],
+    level: Level,
+    header: &mut [u8],
+    cells: &mut [u8],
+) -> Result<Gridded, Refusal>
+    ensures { Grids table.now level header.old cells.old (gridded_in result) header.new cells.new }
 {
-    let number = refusal(table, level, header.len(), cells.len());
-    if number != 0 {
-        return Gridded {
-            number: number,
-            header: 0,
-            cells: 0,
-        };
-    }
-    let w = wide(level);
-    let side = 16 / w;
-    Gridded {
-        number: 0,
-        header: put_header(header, w, side),
-        cells: put_cells(cells, table, w, side),
-    }
+    check(table, level, header.len(), cells.len())?;
+    let mut lines = Out::new(header, 0);
+    put_header(&mut lines, level);
+    let mut rows = Out::new(cells, 0);
+    Map { table, level }.put_cells(&mut rows);
+    Ok(Gridded {
+        header: lines.place(),
+        cells: rows.place(),
+    })
 }

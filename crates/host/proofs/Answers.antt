@@ -8,8 +8,8 @@ use mathlib.Core.List.{List, [], ◌∷◌, map, head-eq_of_cons-eq}
 use lib.ListN.{length, take, drop, length-take, length-drop, length-map}
 use lib.Dec.{eqb}
 use borrow.Author.Tests.{eqb-true, eqb-false, eq-eqb, ne_eqb, le-leb, lt-leb}
-use Rattle.standard.specs.declared.Said.{Said}
-use Rattle.standard.specs.declared.Said.TheVariants.{Silent, Gave}
+use Rattle.std.specs.Prelude.{Option}
+use Rattle.std.specs.Prelude.{Some, None}
 use Rattle.standard.specs.declared.Verdict.{Verdict}
 use Rattle.standard.specs.declared.Reply.{Reply}
 use Rattle.standard.specs.declared.Reply.TheVariants.{Nothing}
@@ -47,7 +47,7 @@ heard_read r t bs h w = heard_scan r t bs h ∙ lent_read_lem r bs w
 -- a refusal: nothing is used, reader and table stay, and there is no reply
 pub refused : (number : ℕ) (r : Reader) (t bs : List ℕ) → 9 ≤ number → (number ≡ 15 → ⊥)
     → heard_by r t bs ≡ record { reader = r; used = 0; said = handing number [] ∷ [] }
-    → Hears r t bs r 0 (Gave (record { number = number; type_byte = 0; length = 0 })) Nothing t
+    → Hears r t bs r 0 (Some (record { number = number; type_byte = 0; length = 0 })) Nothing t
 unfolding table_after
 refused number r t bs h other e =
     let some = ne_eqb number 0 (λ z. omega arith) in
@@ -61,7 +61,7 @@ refused number r t bs h other e =
     }
 
 -- a read that said `heard`, and the reply and the table that go with it
-pub hears : (r : Reader) (t bs : List ℕ) {reader : Reader} {used : ℕ} {heard said : Said} {reply : Reply}
+pub hears : (r : Reader) (t bs : List ℕ) {reader : Reader} {used : ℕ} {heard said : Option Verdict} {reply : Reply}
     {after : List ℕ} → heard ≡ said → heard_by r t bs ≡ lent_read r bs → Lent r bs reader used heard
     → reply_number reply ≡ reply_to (handed_in said reader.bytes)
     → after ≡ table_after t (handed_in said reader.bytes) → Hears r t bs reader used said reply after
@@ -78,12 +78,12 @@ hears r t bs {reader} {used} {heard} {said} s e read p q =
 -- ---- what it hands out
 
 -- a message stands in the reader's bytes
-pub message_fits : (v : Verdict) {said : Said} {reader : Reader} {a : Given} → said ≡ Gave v → Gives reader said a
+pub message_fits : (v : Verdict) {said : Option Verdict} {reader : Reader} {a : Given} → said ≡ Some v → Gives reader said a
     → v.length ≤ length reader.bytes - 1
 message_fits v {said} {reader} {a} s g =
-    let given : Gives reader (Gave v) a = rw s at g in
+    let given : Gives reader (Some v) a = rw s at g in
     let bytes = reader.bytes in
-    let same : v ∷ [] ≡ map verdict_for (handed_in (Gave v) bytes) =
+    let same : v ∷ [] ≡ map verdict_for (handed_in (Some v) bytes) =
     given.verdict ∙ ap (map verdict_for) (sym given.handed)
     in
     let size : v.length ≡ length (take v.length (drop 1 bytes)) =
@@ -92,7 +92,7 @@ message_fits v {said} {reader} {a} s g =
     omega (arith, length-take v.length (drop 1 bytes), length-drop 1 bytes)
 
 -- a good message is handed out of a reader's array alone: any other is answered with 12
-pub good_sized : (r : Reader) (bs : List ℕ) (v : Verdict) {said : Said} {reader : Reader} → said ≡ Gave v
+pub good_sized : (r : Reader) (bs : List ℕ) (v : Verdict) {said : Option Verdict} {reader : Reader} → said ≡ Some v
     → Gives reader said (lent_read r bs) → v.number ≡ 0 → length r.bytes ≡ longest + 3
 good_sized r bs v {said} {reader} s g z = go (eqb (length r.bytes) (longest + 3)) refl
   where
@@ -100,12 +100,12 @@ good_sized r bs v {said} {reader} s g z = go (eqb (length r.bytes) (longest + 3)
     go true e = eqb-true (length r.bytes) (longest + 3) e
     go false e =
         let none = lent_none r bs (eqb-false (length r.bytes) (longest + 3) e) in
-        let given : Gives reader (Gave v) (not_sound r) = rw none at (rw s at g) in
+        let given : Gives reader (Some v) (not_sound r) = rw none at (rw s at g) in
         absurd (omega (arith, ap (λ (w : Verdict). w.number) (head-eq_of_cons-eq given.verdict)))
 
-few : (said : Said) (hs : List Handed) → verdicts_in said ≡ map verdict_for hs → length hs ≤ 1
-few Silent hs e = omega (arith, ap length e, length-map hs verdict_for)
-few (Gave v) hs e = omega (arith, ap length e, length-map hs verdict_for)
+few : (said : Option Verdict) (hs : List Handed) → verdicts_in said ≡ map verdict_for hs → length hs ≤ 1
+few None hs e = omega (arith, ap length e, length-map hs verdict_for)
+few (Some v) hs e = omega (arith, ap length e, length-map hs verdict_for)
 
 -- "at most one verdict"
 pub one_said : (r : Reader) (bs : List ℕ) → length (read_of r bs).said ≤ 1

@@ -7,7 +7,8 @@ use borrow.Fn.Kinds.{Dens, ended_of, res_t}
 use contract.Lifetimes.{Lfts}
 use denote.Triple.Clauses.{AtExit}
 use Rattle.standard.specs.declared.Escapes.{Escapes}
-use Rattle.standard.specs.declared.Said.{Said}
+use Rattle.std.specs.Prelude.{Option}
+use Rattle.standard.specs.declared.Verdict.{Verdict}
 use Rattle.standard.specs.declared.Reply.{Reply}
 use Rattle.standard.proofs.Stream.{verdicts_same}
 use Rattle.standard.proofs.Replies.{reply_one}
@@ -29,10 +30,10 @@ abbrev taken : Reader → ℕ → Taken
 taken reader used = record { reader = reader; used = used }
 
 record Told : Type 0 where
-  said : Said
+  said : Option Verdict
   reply : Reply
 
-abbrev told : Said → Reply → Told
+abbrev told : Option Verdict → Reply → Told
 told said reply = record { said = said; reply = reply }
 
 abbrev hearing : Taken → Told → Hearing

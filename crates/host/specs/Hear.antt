@@ -1,6 +1,7 @@
 -- What `hear` and `listen` answer: a read, the reply to its verdict, and the table after it. Assumes nothing.
 use Rattle.std.specs.Prelude.{ℕ, ◌≡◌, cond, List, [], ◌∷◌}
-use Rattle.standard.specs.declared.Said.{Said}
+use Rattle.std.specs.Prelude.{Option}
+use Rattle.standard.specs.declared.Verdict.{Verdict}
 use Rattle.standard.specs.declared.Reply.{Reply}
 use Rattle.standard.specs.Judge.{Handed, handing}
 use Rattle.standard.specs.Replies.{reply_number, reply_of}
@@ -33,7 +34,7 @@ answer_of r t bs =
     record { gives = a; reply = reply_to a.said; table = table_after t a.said }
 
 -- what `hear` and `listen` promise: reader and verdict, used bytes, reply, and every byte of the table
-pub record Hears (r : Reader) (t bs : List ℕ) (reader : Reader) (used : ℕ) (said : Said) (reply : Reply)
+pub record Hears (r : Reader) (t bs : List ℕ) (reader : Reader) (used : ℕ) (said : Option Verdict) (reply : Reply)
     (after : List ℕ) : Type 0 where
   pub gives : Gives reader said (answer_of r t bs).gives
   pub uses : used ≡ (answer_of r t bs).gives.used

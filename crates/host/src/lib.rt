@@ -7,15 +7,15 @@ ghost use Rattle.standard.specs.Judge.{handed_in};
 ghost use Rattle.standard.specs.Table.{table_after};
 ghost use Rattle.host.specs.Hear.{Hears};
 
-use reader::{Mode, Reader};
-use standard::{Escapes, Reply, Said, Verdict};
+use reader::{Mode, Reader, Scanned};
+use standard::{Escapes, Reply, Verdict};
 
 // What one call gives.
 #[derive(Clone, Copy)]
 pub struct Hearing {
     pub reader: Reader,
     pub used: usize,
-    pub said: Said,
+    pub said: Option<Verdict>,
     pub reply: Reply,
 }
 
@@ -25,31 +25,15 @@ pub struct Listened {
     pub mode: Mode,
     pub held: usize,
     pub used: usize,
-    pub said: Said,
+    pub said: Option<Verdict>,
     pub reply: Reply,
 }
 
-// A refused call: no byte is used, and there is no reply.
-fn refused(mode: Mode, held: usize, number: u8) -> Listened
-    ensures { result ≡ record { mode = mode; held = held; used = 0; said = Said.Gave (record { number = number; type_byte = 0; length = 0 }); reply = Reply.Nothing } }
-{
-    Listened {
-        mode,
-        held,
-        used: 0,
-        said: Said::Gave(Verdict {
-            number,
-            type_byte: 0,
-            length: 0,
-        }),
-        reply: Reply::Nothing,
-    }
-}
-
 // A good message, which stands in the frame's bytes after the length byte, goes into the table.
+#[tactic(auto, unfolding(standard::specs::Table::table_after))]
 fn store(table: &mut [u8], verdict: Verdict, frame: &[u8])
     requires { verdict.number ≡ 0 → verdict.length + 1 ≤ length frame.now }
-    ensures { table.new ≡ table_after table.old (handed_in (Said.Gave verdict) frame.now) }
+    ensures { table.new ≡ table_after table.old (handed_in (Some verdict) frame.now) }
 {
     if verdict.number == 0 {
         let end = verdict.length as usize + 1;
@@ -57,63 +41,78 @@ fn store(table: &mut [u8], verdict: Verdict, frame: &[u8])
     }
 }
 
-// `hear` with the frame's bytes in lent memory, as `reader::scan` has them.
+// `hear` with the frame's bytes in lent memory, as `reader::scan` has them. Without a table the
+// answer is 11: no byte is used, and there is no reply.
 pub fn listen(
     escapes: Escapes,
-    from: Mode,
-    count: usize,
+    mode: Mode,
+    held: usize,
     frame: &mut [u8],
     table: &mut [u8],
     bytes: &[u8],
 ) -> Listened
-    ensures { Hears (record { mode = from; held = count; bytes = frame.old; escapes = escapes }) table.old bytes.now (record { mode = result.mode; held = result.held; bytes = frame.new; escapes = escapes }) result.used result.said result.reply table.new }
+    ensures { Hears (record { mode = mode; held = held; bytes = frame.old; escapes = escapes }) table.old bytes.now (record { mode = result.mode; held = result.held; bytes = frame.new; escapes = escapes }) result.used result.said result.reply table.new }
 {
-    if table::refusal(table) != 0 {
-        return refused(from, count, 11);
-    }
-    let answer = reader::scan(escapes, from, count, frame, bytes);
-    let mode = answer.mode;
-    let said = answer.said;
-    match said {
-        Said::Silent => Listened {
+    if let Err(refusal) = table::check(table) {
+        return Listened {
             mode,
-            held: answer.held,
-            used: answer.used,
-            said: Said::Silent,
+            held,
+            used: 0,
+            said: Some(Verdict {
+                number: refusal.number(),
+                type_byte: 0,
+                length: 0,
+            }),
             reply: Reply::Nothing,
-        },
-        Said::Gave(verdict) => {
+        };
+    }
+    let Scanned {
+        mode,
+        held,
+        used,
+        said,
+    } = reader::scan(escapes, mode, held, frame, bytes);
+    let reply = match said {
+        Some(verdict) => {
             store(table, verdict, frame);
-            Listened {
-                mode,
-                held: answer.held,
-                used: answer.used,
-                said: Said::Gave(verdict),
-                reply: replies::reply(verdict.number, verdict.type_byte),
-            }
+            replies::reply(verdict.number, verdict.type_byte)
         }
+        None => Reply::Nothing,
+    };
+    Listened {
+        mode,
+        held,
+        used,
+        said,
+        reply,
     }
 }
 
 // Reads up to the first verdict, stores a good message, and says the reply.
-pub fn hear(reader: Reader, table: &mut [u8], bytes: &[u8]) -> Hearing
+pub fn hear(mut reader: Reader, table: &mut [u8], bytes: &[u8]) -> Hearing
     ensures { Hears reader table.old bytes.now result.reader result.used result.said result.reply table.new }
 {
-    let from = reader.mode;
-    let escapes = reader.escapes;
-    let mut frame = reader.bytes;
-    let answer = listen(escapes, from, reader.held, &mut frame, table, bytes);
-    let mode = answer.mode;
-    let said = answer.said;
-    let reply = answer.reply;
+    let Listened {
+        mode,
+        held,
+        used,
+        said,
+        reply,
+    } = listen(
+        reader.escapes,
+        reader.mode,
+        reader.held,
+        &mut reader.bytes,
+        table,
+        bytes,
+    );
     Hearing {
         reader: Reader {
             mode,
-            held: answer.held,
-            bytes: frame,
-            escapes,
+            held,
+            ..reader
         },
-        used: answer.used,
+        used,
         said,
         reply,
     }

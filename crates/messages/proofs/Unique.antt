@@ -4,6 +4,7 @@ use mathlib.Core.Path.{◌≡◌, sym, ◌∙◌}
 use borrow.Fn.Kinds.{Dens, ended_of, res_t}
 use contract.Lifetimes.{Lfts}
 use denote.Triple.Clauses.{AtExit}
+use Rattle.standard.proofs.Sheet.{numbers_same}
 use Rattle.messages.proofs.length_for.Kinds as length-for-kinds
 use Rattle.messages.proofs.length_for.Reads as length-for
 use Rattle.messages.proofs.check.Kinds as check-kinds
@@ -19,7 +20,7 @@ length_for_unique κs a e x y p q = p ∙ sym q
 pub check_unique : (κs : Lfts 1) (a : Dens κs check-kinds.ps)
     (e : AtExit (ended_of 1 check-kinds.ps check-kinds.r) κs)
     (x y : (res_t check-kinds.r κs).Denot) → check.Post κs a x e → check.Post κs a y e → x ≡ y
-check_unique κs a e x y p q = p ∙ sym q
+check_unique κs a e x y p q = numbers_same x y (p ∙ sym q)
 
 pub is_status_unique : (κs : Lfts 1) (a : Dens κs is-status-kinds.ps)
     (e : AtExit (ended_of 1 is-status-kinds.ps is-status-kinds.r) κs)

@@ -2,8 +2,11 @@
 // message. Fields stand as in document 003, whose byte k is `message[k - 1]` here.
 #![tactic(auto)]
 
-ghost use Rattle.std.specs.Prelude.{◌≡◌, true, cond, ◌⊎◌, ◌≤◌, eqb, length};
-ghost use Rattle.standard.specs.Messages.{length_for, within, x10_ok, clock_ok, values_ok, check_of, status_number, is_status};
+ghost use Rattle.std.specs.Prelude.{◌<◌, ◌≡◌, true, cond, ◌⊎◌, ◌≤◌, eqb, length};
+ghost use Rattle.standard.specs.Refusals.{number_in};
+ghost use Rattle.standard.specs.Messages.{known, length_in, length_asked, length_for, within, x10_ok, clock_ok, values_ok, check_of, status_number, is_status};
+
+use standard::Refusal;
 
 // The table of 64 message lengths, hexadecimal number and decimal length; 0: unrecognised.
 const LENGTHS: [u8; 64] = [
@@ -73,16 +76,24 @@ const LENGTHS: [u8; 64] = [
     2, // 3F
 ];
 
-// The length that a type byte asks; 0: its number is unrecognised.
-pub fn length_for(type_byte: u8) -> u8
-    ensures { result ≡ length_for type_byte }
+// The table's entry of a number.
+fn listed(number: u8) -> u8
+    requires { number < 64 }
+    ensures { result ≡ length_in known number }
+{
+    LENGTHS[number as usize]
+}
+
+// The length that a type byte asks; none where its number is unrecognised.
+pub fn length_for(type_byte: u8) -> Option<u8>
+    ensures { result ≡ length_asked type_byte }
 {
     // "Bit 6 set makes the number unrecognised."
-    if type_byte / 64 % 2 == 0 {
-        LENGTHS[(type_byte % 64) as usize]
-    } else {
-        0
+    if type_byte / 64 % 2 != 0 {
+        return None;
     }
+    let length = listed(type_byte % 64);
+    if length == 0 { None } else { Some(length) }
 }
 
 // A value from low to high, both ends counted.
@@ -109,6 +120,7 @@ fn x10_ok(message: &[u8]) -> bool
 }
 
 // Byte 3 of 10h, 30h and 31h, whose bits hold the upper logical location.
+#[tactic(auto, unfolding(standard::specs::Messages::length_for))]
 fn location_ok(number: u8, message: &[u8]) -> bool
     requires fact { (number ≡ 0x10) ⊎ ((0x30 ≤ number) × (number ≤ 0x31)) }
     requires message_len { length message.now ≡ length_for number }
@@ -138,6 +150,7 @@ fn clock_ok(message: &[u8]) -> bool
 }
 
 // The function of 3Ch, 3Dh and 3Eh.
+#[tactic(auto, unfolding(standard::specs::Messages::length_for, standard::specs::Messages::values_ok))]
 fn function_ok(number: u8, message: &[u8]) -> bool
     requires le_number { (0x3C ≤ number) × (number ≤ 0x3E) }
     requires message_len { length message.now ≡ length_for number }
@@ -153,6 +166,7 @@ fn function_ok(number: u8, message: &[u8]) -> bool
 
 // "Only these values are checked", an arm for each line of the list; the bytes of every other
 // number pass unchecked.
+#[tactic(auto, unfolding(standard::specs::Messages::length_for, standard::specs::Messages::values_ok))]
 fn values_ok(number: u8, message: &[u8]) -> bool
     requires { length message.now ≡ length_for number }
     ensures { result ≡ values_ok number message.now }
@@ -170,42 +184,39 @@ fn values_ok(number: u8, message: &[u8]) -> bool
     }
 }
 
-// The verdict of some bytes as a message: 0, 4, 6, 7 or 8.
-pub fn check(message: &[u8]) -> u8
-    ensures { result ≡ check_of message.now }
+// Whether some bytes are a good message, or why not: 4, 6, 7 or 8.
+pub fn check(message: &[u8]) -> Result<(), Refusal>
+    ensures { number_in result ≡ check_of message.now }
 {
-    if message.len() == 0 {
-        return 4;
-    }
-    if standard::LONGEST < message.len() {
-        return 4;
+    if message.is_empty() || standard::LONGEST < message.len() {
+        return Err(Refusal::Length);
     }
     let type_byte = message[0];
-    let length = length_for(type_byte);
-    if length == 0 {
-        return 6;
-    }
+    let Some(length) = length_for(type_byte) else {
+        return Err(Refusal::Unrecognised);
+    };
     if message.len() != length as usize {
-        return 7;
+        return Err(Refusal::OtherLength);
     }
     if values_ok(type_byte % 64, message) {
-        0
+        Ok(())
     } else {
-        8
+        Err(Refusal::Value)
     }
 }
 
 // The length of a message of one of the numbers 04 to 08.
+#[tactic(auto, using(standard::proofs::Status::five), unfolding(standard::specs::Messages::length_for))]
 fn status_length(number: u8) -> u8
     requires { status_number number ≡ true }
     ensures { result ≡ length_for number }
 {
     match number {
-        0x04 => length_for(0x04),
-        0x05 => length_for(0x05),
-        0x06 => length_for(0x06),
-        0x07 => length_for(0x07),
-        _ => length_for(0x08),
+        0x04 => listed(0x04),
+        0x05 => listed(0x05),
+        0x06 => listed(0x06),
+        0x07 => listed(0x07),
+        _ => listed(0x08),
     }
 }
 

@@ -17,7 +17,8 @@ use contract.Lifetimes.{Lfts}
 use denote.Triple.Clauses.{AtExit}
 use Rattle.standard.specs.declared.Framing.TheVariants.{Binary, Ascii}
 use Rattle.standard.specs.declared.Escapes.TheVariants.{Strict, Lenient}
-use Rattle.standard.specs.declared.Written.{Written}
+use Rattle.standard.specs.Refusals.{written_in}
+use Rattle.standard.proofs.Sheet.{written_same}
 use Rattle.standard.specs.Messages.{longest}
 use Rattle.standard.specs.Replies.{reply_of}
 use Rattle.standard.specs.Table.{table_bytes, is_table, table_after, zone_place, partition_place}
@@ -31,7 +32,9 @@ use Rattle.standard.proofs.Refusals.{of_the_writer, refusal_numbers}
 use Rattle.reader.specs.declared.Mode.TheVariants.{Open}
 use Rattle.reader.specs.Step.{step_of}
 use Rattle.reader.specs.Read.{scan_of, read_of}
-use Rattle.commands.specs.declared.Ended.TheVariants.{Not, GivenUp, Acknowledged, Failed, Rejected, Replied}
+use Rattle.commands.specs.declared.Ended.TheVariants.{GivenUp, Acknowledged, Failed, Rejected, Replied}
+use Rattle.std.specs.Prelude.{Some, None, Result}
+use Rattle.standard.specs.declared.Refusal.{Refusal}
 use Rattle.commands.specs.declared.Sending.{Sending}
 use Rattle.commands.specs.Commands.{ended_number, answer_of}
 use Rattle.commands.proofs.Endings.{answer_one}
@@ -189,8 +192,8 @@ no_table_is_11 c t bs h =
 
 -- ---- the writer's answer
 
-pub written_once : (w v : Written) → c_written w ≡ c_written v → w ≡ v
-written_once w v e = ap (λ (c : CWritten). record { number = c.number; length = c.length }) e
+pub written_once : (x y : Result ℕ Refusal) → c_written (written_in x) ≡ c_written (written_in y) → x ≡ y
+written_once x y e = written_same x y (ap (λ (c : CWritten). record { number = c.number; length = c.length }) e)
 
 -- every answer has one of the numbers 0, 4, 6, 7, 8 and 9
 pub nx584_write_numbers : (κs : Lfts 2) (a : Dens κs write-kinds.ps)
@@ -329,24 +332,24 @@ digit_in_binary digit = refl
 -- ---- the line of commands
 
 -- how the front ended: 0 not, 1 given up, else the number of the message that ended it
-pub not_ended_is_0 : ended_number Not ≡ 0
+pub not_ended_is_0 : ended_number None ≡ 0
 not_ended_is_0 = refl
 
-pub given_up_is_1 : ended_number GivenUp ≡ 1
+pub given_up_is_1 : ended_number (Some GivenUp) ≡ 1
 given_up_is_1 = refl
 
-pub acknowledged_is_1d : ended_number Acknowledged ≡ 0x1D
+pub acknowledged_is_1d : ended_number (Some Acknowledged) ≡ 0x1D
 acknowledged_is_1d = refl
 
-pub failed_is_1c : ended_number Failed ≡ 0x1C
+pub failed_is_1c : ended_number (Some Failed) ≡ 0x1C
 failed_is_1c = refl
 
-pub rejected_is_1f : ended_number Rejected ≡ 0x1F
+pub rejected_is_1f : ended_number (Some Rejected) ≡ 0x1F
 rejected_is_1f = refl
 
-pub replied_is_12 : ended_number Replied ≡ 0x12
+pub replied_is_12 : ended_number (Some Replied) ≡ 0x12
 replied_is_12 = refl
 
 -- the numbers lose nothing: two answers with the same are one
-pub sending_once : (c : CSending) (r s : Sending) → c_answer c ≡ answer_of r → c_answer c ≡ answer_of s → r ≡ s
+pub sending_once : (c : CSending) (r s : Result Sending Refusal) → c_answer c ≡ answer_of r → c_answer c ≡ answer_of s → r ≡ s
 sending_once c r s p q = answer_one (sym p ∙ q)

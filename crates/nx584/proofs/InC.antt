@@ -1,15 +1,15 @@
 -- What is said of a read, in numbers. Assumes nothing.
 use Prim.Native.Nat.{ℕ, ◌+◌, ◌≤◌}
 use native.Mathlib.Omega.{arith}
-use mathlib.Core.Path.{◌≡◌, refl, sym, ap}
+use mathlib.Core.Path.{◌≡◌, refl, ap}
 use mathlib.Core.Bool.{Bool, true, false, cond}
 use mathlib.Core.List.{List, [], ◌∷◌, map, head-eq_of_cons-eq, cons≢nil}
 use lib.Dec.{eqb}
 use lib.ListN.{length, take}
 use lib.Seq.{take-append_seam}
 use borrow.Author.Tests.{eq-eqb, ne_eqb}
-use Rattle.standard.specs.declared.Said.{Said}
-use Rattle.standard.specs.declared.Said.TheVariants.{Silent, Gave}
+use Rattle.std.specs.Prelude.{Option}
+use Rattle.std.specs.Prelude.{Some, None}
 use Rattle.standard.specs.declared.Verdict.{Verdict}
 use Rattle.standard.specs.Messages.{longest, longest_known}
 use Rattle.standard.specs.Judge.{Handed, handing, verdict_for, verdicts_in, handed_in}
@@ -25,15 +25,15 @@ use Rattle.reader.proofs.State.Handing.{said_for, one_verdict}
 use Rattle.host.specs.Hear.{reply_to}
 use Rattle.nx584.specs.declared.CReader.{CReader}
 use Rattle.nx584.specs.Boundary.{reader_for, mode_ok, sound_c, number_said, type_said, message_said, length_said}
-use Rattle.nx584.specs.Boundary.{numbers_said, padded, c_reader, c_hearing, c_took, c_refused, c_read}
-use Rattle.nx584.specs.Boundary.{c_heard, CHears}
+use Rattle.nx584.specs.Boundary.{numbers_said, padded, c_reader, c_took, c_refused, c_read}
+use Rattle.nx584.specs.Boundary.{c_heard}
 
 -- a message that is handed out is no longer than the longest of the 41
-pub few_said : (said : Said) (hs : List Handed) → verdicts_in said ≡ map verdict_for hs → Short hs
+pub few_said : (said : Option Verdict) (hs : List Handed) → verdicts_in said ≡ map verdict_for hs → Short hs
     → length_said said ≤ longest_known
-few_said Silent hs e k = omega arith
-few_said (Gave v) [] e k = absurd (cons≢nil e)
-few_said (Gave v) (h ∷ hs) e k =
+few_said None hs e k = omega arith
+few_said (Some v) [] e k = absurd (cons≢nil e)
+few_said (Some v) (h ∷ hs) e k =
     let same : v.length ≡ length h.message = ap (λ (w : Verdict). w.length) (head-eq_of_cons-eq e) in
     omega arith
 
@@ -70,7 +70,7 @@ unfolding c_heard
 heard_refused c t bs h = rw (ne_eqb (length t) table_bytes h)
 
 -- what a sound reader answers fits the numbers that C gets
-pub took_fits : (r : Reader) (bs : List ℕ) (reader : Reader) (said : Said) → sound_reader r ≡ true
+pub took_fits : (r : Reader) (bs : List ℕ) (reader : Reader) (said : Option Verdict) → sound_reader r ≡ true
     → Gives reader said (read_of r bs)
     → (reader.held ≤ 65535) × (length_said said ≤ longest_known)
 took_fits r bs reader said h g =
@@ -79,27 +79,15 @@ took_fits r bs reader said h g =
     (omega arith, few_said said (read_of r bs).said g.verdict (read_short r bs))
 
 -- an answer of code, in numbers
-pub took_c : (escapes : ℕ) (a : Given) (reader : Reader) (used : ℕ) (said : Said) → Gives reader said a → used ≡ a.used
+pub took_c : (escapes : ℕ) (a : Given) (reader : Reader) (used : ℕ) (said : Option Verdict) → Gives reader said a → used ≡ a.used
     → record { reader = c_reader escapes reader; used = used; said = handed_in said reader.bytes } ≡ c_took escapes a
 took_c escapes a reader used said g u = rw (g.handed, u, g.next)
 
--- ---- what `nx584_hear` answers
-
-pub hear_refused : (c : CReader) (t bs : List ℕ) (number : ℕ) → c_heard c t bs ≡ c_refused c number
-    → (number ≡ 0 → ⊥)
-    → CHears c t bs (c_hearing (c_refused c number)) t
-unfolding table_after
-hear_refused c t bs number e z =
-    record {
-      says = ap c_hearing (sym e);
-      leaves = rw (e, ne_eqb number 0 z);
-    }
-
 -- ---- what was said, from its numbers
 
-pub length_said_lem : (said : Said) → (numbers_said said).length ≡ length_said said
-length_said_lem Silent = refl
-length_said_lem (Gave v) = refl
+pub length_said_lem : (said : Option Verdict) → (numbers_said said).length ≡ length_said said
+length_said_lem None = refl
+length_said_lem (Some v) = refl
 
 pub reply_said : (hs : List Handed) → reply_of (number_said hs) (type_said hs) ≡ reply_to hs
 unfolding reply_of

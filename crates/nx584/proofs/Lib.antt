@@ -8,3 +8,4 @@ pub mod Maps
 pub mod Unique
 pub mod FreshReader
 pub mod Scans
+mod Views

@@ -3,7 +3,7 @@
 use Prim.Native.Nat.{ℕ, ◌≤◌}
 use mathlib.Core.Path.{◌≡◌, refl, sym, ap, ◌∙◌}
 use mathlib.Core.Bool.{true}
-use mathlib.Core.Option.{Option, none, some}
+use Rattle.std.specs.Prelude.{Option, Some, None}
 use mathlib.Core.List.{List, [], ◌∷◌}
 use lib.ListN.{length}
 use borrow.Author.Tests.{eq-eqb, ne_eqb}
@@ -15,11 +15,10 @@ use Rattle.standard.proofs.Refusals.{first_in}
 use Rattle.standard.specs.Messages.{among}
 use Rattle.grid.specs.declared.Level.{Level}
 use Rattle.grid.specs.declared.Level.TheVariants.{Sixteen, Eight, Four, Two, One}
-use Rattle.grid.specs.declared.Gridded.{Gridded}
-use Rattle.grid.specs.Grid.{wide, Grids}
+use Rattle.grid.specs.Grid.{wide}
 use Rattle.grid.proofs.Refused.{said, grid_within, not_a_table, room_enough}
 use Rattle.nx584.specs.declared.CGridded.{CGridded}
-use Rattle.nx584.specs.Maps.{level_for, c_gridded, c_gridded_of, CGrids}
+use Rattle.nx584.specs.Maps.{level_for, c_gridded_of, CGrids}
 
 -- ---- 11, then 8
 
@@ -31,17 +30,8 @@ unfolding table_refusal
 asked_eleven t h = rw (ne_eqb (length t) table_bytes (λ e. h (whole_asked t e)))
 
 module _ (t : List ℕ) (width : ℕ) (header cells : List ℕ) where
-  -- where the width names a level, what its grid says and leaves
-  pub named : (level : Level) → level_for width ≡ some level → {answer : Gridded} {header' cells' : List ℕ}
-      → Grids t level header cells answer header' cells' → CGrids t width header cells (c_gridded answer) header' cells'
-  named level e g = record {
-    says = rw e (ap c_gridded g.says);
-    heads = rw e g.heads;
-    leaves = rw e g.leaves;
-  }
-
   -- where it names none, 11 or 8
-  pub unnamed : level_for width ≡ none → (number : ℕ) → number ≡ first_of (table_test t ∷ (true, 8) ∷ [])
+  pub unnamed : level_for width ≡ None → (number : ℕ) → number ≡ first_of (table_test t ∷ (true, 8) ∷ [])
       → CGrids t width header cells (record { number = number; header = 0; cells = 0 }) header cells
   unnamed e number h = record {
     says = rw e (ap (λ n. record { number = n; header = 0; cells = 0 }) h);
@@ -52,7 +42,7 @@ module _ (t : List ℕ) (width : ℕ) (header cells : List ℕ) where
 -- ---- what the header says
 
 -- a width names the level that is so wide, and any other width names none
-pub width_names : (level : Level) → level_for (wide level) ≡ some level
+pub width_names : (level : Level) → level_for (wide level) ≡ Some level
 unfolding level_for
 width_names Sixteen = refl
 width_names Eight = refl
@@ -60,7 +50,7 @@ width_names Four = refl
 width_names Two = refl
 width_names One = refl
 
-pub names_none : (width : ℕ) → ((level : Level) → width ≡ wide level → ⊥) → level_for width ≡ none
+pub names_none : (width : ℕ) → ((level : Level) → width ≡ wide level → ⊥) → level_for width ≡ None
 unfolding level_for
 names_none width h =
     rw (
@@ -82,8 +72,8 @@ module _ {t : List ℕ} {width : ℕ} {header cells : List ℕ} {answer : CGridd
   c_grid_numbers = ap (λ n. among n (0 ∷ 8 ∷ 9 ∷ 11 ∷ [])) number ∙ go (level_for width)
     where
       go : (o : Option Level) → among (c_gridded_of t o header cells).number (0 ∷ 8 ∷ 9 ∷ 11 ∷ []) ≡ true
-      go none = first_in (λ n. among n (0 ∷ 8 ∷ 9 ∷ 11 ∷ [])) (table_test t ∷ (true, 8) ∷ []) refl
-      go (some level) =
+      go None = first_in (λ n. among n (0 ∷ 8 ∷ 9 ∷ 11 ∷ [])) (table_test t ∷ (true, 8) ∷ []) refl
+      go (Some level) =
           ap (λ n. among n (0 ∷ 8 ∷ 9 ∷ 11 ∷ [])) (said t level header cells)
           ∙ grid_within t level header cells (λ n. among n (0 ∷ 8 ∷ 9 ∷ 11 ∷ [])) refl
 
@@ -92,8 +82,8 @@ module _ {t : List ℕ} {width : ℕ} {header cells : List ℕ} {answer : CGridd
   c_no_table h = number ∙ go (level_for width)
     where
       go : (o : Option Level) → (c_gridded_of t o header cells).number ≡ 11
-      go none = rw (ne_eqb (length t) table_bytes h)
-      go (some level) = said t level header cells ∙ not_a_table t level header cells h
+      go None = rw (ne_eqb (length t) table_bytes h)
+      go (Some level) = said t level header cells ∙ not_a_table t level header cells h
 
   -- then 8, whatever the buffers
   pub c_no_level : length t ≡ table_bytes → ((level : Level) → width ≡ wide level → ⊥) → answer.number ≡ 8

@@ -1,15 +1,19 @@
--- A part of a table that a question gave, copied over zeros: the part, or zeros where the question was refused. Assumes
+-- A part of a table that a question gave, laid over zeros: the part, or zeros where the question was refused. Assumes
 -- nothing.
+use Rattle.std.specs.Prelude.{Result, Ok, Err}
+use Rattle.std.specs.Result.{result_unwrap_or}
+use Rattle.standard.specs.declared.Refusal.{Refusal}
+use Rattle.standard.specs.Refusals.{value_in}
 use Prim.Native.Nat.{ℕ, ◌+◌, ◌≤◌, ◌<◌}
 use native.Mathlib.Omega.{arith}
-use mathlib.Core.Path.{◌≡◌, refl, sym, ap, ◌∙◌}
+use mathlib.Core.Path.{◌≡◌, refl, ap, ◌∙◌}
 use mathlib.Core.Bool.{Bool, true, false, cond}
 use mathlib.Core.List.{List, [], ◌++◌, append-nil}
 use lib.Dec.{eqb}
 use lib.ListN.{length, take, drop, replicate, length-replicate, length-drop, drop_of_length-le}
-use lib.Seq.{take-length, length-take-le}
+use lib.Seq.{length-take-le}
 use borrow.Author.Tests.{eqb-true}
-use Rattle.standard.specs.Words.{byte}
+use Rattle.standard.specs.Words.{byte, laid}
 use Rattle.standard.specs.Table.{zone_place, partition_place, system_place}
 use Rattle.standard.specs.Questions.{table_refusal, partition_refusal, zone_part, partition_part, system_part}
 use Rattle.standard.proofs.Questions.{asked_whole, asked_partition}
@@ -17,12 +21,10 @@ use Rattle.nx584.specs.declared.CPartition.{CPartition}
 use Rattle.nx584.specs.declared.CSystem.{CSystem}
 use Rattle.nx584.specs.Records.{part_unless, c_partition, c_system}
 
--- bytes copied over as many
-pub copied_all : (src over : List ℕ) {after : List ℕ} → length over ≤ length src
-    → after ≡ take (length src) src ++ drop (length src) over → after ≡ src
-copied_all src over h e =
-    e ∙ ap (λ l. l ++ drop (length src) over) (take-length src) ∙ ap (λ l. src ++ l) (drop_of_length-le over h)
-    ∙ append-nil src
+-- as many bytes as there are zeros
+laid_whole : (part : List ℕ) (n : ℕ) → length part ≡ n → laid (replicate n 0) 0 part ≡ part
+laid_whole part n h =
+    ap (λ l. part ++ l) (drop_of_length-le (replicate n 0) (rw length-replicate (omega arith))) ∙ append-nil part
 
 -- a part of known size, or none
 module _ (refusal size : ℕ) (value part : List ℕ) (sized : refusal ≡ 0 → length value ≡ size)
@@ -34,28 +36,30 @@ module _ (refusal size : ℕ) (value part : List ℕ) (sized : refusal ≡ 0 →
       go true e = let h = sized (eqb-true refusal 0 e) in rw (given, e) (omega arith)
       go false e = rw (given, e) (omega arith)
 
-  pub part_copied : {after : List ℕ} → after ≡ take (length part) part ++ drop (length part) (replicate size 0)
-      → after ≡ part_unless refusal size value
-  part_copied {after} h = go (eqb refusal 0) refl
+  -- as an array is made of it
+  pub part_laid : {array : List ℕ} → array ≡ laid (replicate size 0) 0 part → array ≡ part_unless refusal size value
+  part_laid {array} h = go (eqb refusal 0) refl
     where
-      go : (t : Bool) → eqb refusal 0 ≡ t → after ≡ part_unless refusal size value
-      go true e =
-          let n = sized (eqb-true refusal 0 e) in
-          let fits : length (replicate {A = ℕ} size 0) ≤ length value = rw length-replicate (omega arith) in
-          rw e (copied_all value (replicate size 0) fits (rw (given, e) at h))
-      go false e = rw e (rw (given, e) at h)
+      go : (t : Bool) → eqb refusal 0 ≡ t → array ≡ part_unless refusal size value
+      go true e = rw e (h ∙ ap (λ p. laid (replicate size 0) 0 p) (rw e at given) ∙ laid_whole value size (sized (eqb-true refusal 0 e)))
+      go false e = rw e (h ∙ ap (λ p. laid (replicate size 0) 0 p) (rw e at given))
 
-  -- the same, as the array comes back from a copy into its beginning
-  pub part_laid : {copy : List ℕ} → copy ≡ part
-      → copy ++ drop (length part) (replicate size 0) ≡ part_unless refusal size value
-  part_laid h = part_copied (ap (λ l. l ++ drop (length part) (replicate size 0)) (h ∙ sym (take-length part)))
-
-  pub unless_sized : length (part_unless refusal size value) ≡ size
+  unless_sized : length (part_unless refusal size value) ≡ size
   unless_sized = go (eqb refusal 0) refl
     where
       go : (t : Bool) → eqb refusal 0 ≡ t → length (part_unless refusal size value) ≡ size
       go true e = rw e (sized (eqb-true refusal 0 e))
       go false e = rw e (length-replicate size 0)
+
+  pub part_size : {array : List ℕ} → array ≡ part_unless refusal size value → length array ≡ size
+  part_size e = ap length e ∙ unless_sized
+
+  -- and an array of all but its first byte, or fewer
+  pub part_within : (n : ℕ) {array bytes : List ℕ} → n + 1 ≤ size → array ≡ part_unless refusal size value
+      → bytes ≡ laid (replicate n 0) 0 (take n (drop 1 array)) → bytes ≡ take n (drop 1 array)
+  part_within n {array} fits e h =
+      let long : length array ≡ size = part_size e in
+      h ∙ laid_whole (take n (drop 1 array)) n (length-take-le n (drop 1 array) (omega (arith, length-drop 1 array, long)))
 
 -- ---- what is told of a record that was copied
 
@@ -116,3 +120,8 @@ partition_sized t partition z =
 pub system_sized : (t : List ℕ) → table_refusal t ≡ 0 → length (system_part t) ≡ 12
 system_sized t z =
     length-take-le 12 (drop system_place t) (omega (arith, length-drop system_place t, asked_whole t z))
+
+-- a refused question's value is 0
+pub value_or : (r : Result ℕ Refusal) → result_unwrap_or r 0 ≡ value_in 0 r
+value_or (Ok value) = refl
+value_or (Err refusal) = refl

@@ -11,8 +11,12 @@ use contract.Lifetimes.{Lfts}
 use denote.Triple.Clauses.{AtExit}
 use Rattle.standard.specs.Words.{Bytes}
 use Rattle.standard.specs.Messages.{among, is_status}
+use Rattle.station_log.specs.Log.{Place, newest_of, log_refusal, keep_refusal, added_of}
+use Rattle.std.specs.Prelude.{Option, Result}
+use Rattle.standard.specs.declared.Refusal.{Refusal}
 use Rattle.station_log.specs.declared.Found.{Found}
-use Rattle.station_log.specs.Log.{newest_of, log_refusal, keep_refusal, added_of}
+use Rattle.station_log.specs.Answers.{place_in, Finds}
+use Rattle.station_log.proofs.Unique.{places_same}
 use Rattle.station_log.specs.Room.{won_of}
 use Rattle.station_log.specs.Runs.{Station, empty, keeping, keeping_all, making, Call, calling_all}
 use Rattle.station_log.proofs.Refusing.{Asked, asked_none, log_numbers, of_the_kept, of_any, all_numbers}
@@ -31,8 +35,12 @@ use Rattle.nx584.proofs.nx584_make_room.Reads as room
 use Rattle.nx584.proofs.nx584_newest.Kinds as newest-kinds
 use Rattle.nx584.proofs.nx584_newest.Reads as newest
 
-pub found_once : (f g : Found) → c_found f ≡ c_found g → f ≡ g
-found_once f g e = ap (λ (c : CFound). record { number = c.number; at = c.at; length = c.length }) e
+-- C's numbers tell the answer: two answers of `find` that have the same are one
+pub found_once : {p q : Place} (x y : Result (Option Found) Refusal) → Finds p x → Finds q y
+    → c_found (place_in x) ≡ c_found (place_in y) → x ≡ y
+found_once x y f g e =
+    let same : place_in x ≡ place_in y = ap (λ (c : CFound). record { number = c.number; at = c.at; length = c.length }) e in
+    places_same x y same (f.none ∙ ap (λ (p : Place). eqb p.length 0) (sym f.says ∙ same ∙ g.says) ∙ sym g.none)
 
 -- a station whose log no call refuses
 abbrev AskedIn : Station → Type 0

@@ -1,21 +1,12 @@
 -- Each exported function's contract settles its answer, and every byte of what it was lent: two answers that meet the
--- predicate that the contract generates are equal. Of a function that is lent slots the theorem is over the clause that
--- the contract generates. Assumes nothing.
+-- predicate that the contract generates are equal. Assumes nothing.
 use mathlib.Core.Path.{◌≡◌, sym, ap, ◌∙◌}
 use mathlib.Core.List.{List}
-use seplogic.Ra.Ura.{Ura}
-use base.Logic.{SProp, ent, sep}
 use borrow.Fn.Kinds.{Dens, ended_of, res_t}
-use prog.Memory.{Memory}
-use prog.Routine.{Routine}
-use types.Logic.{Logic}
 use contract.Lifetimes.{Lfts}
-use contract.Monad.{Fun, fact}
 use denote.Triple.Clauses.{AtExit}
-use denote.Triple.Entry.{Args}
 use Rattle.commands.specs.declared.Slot.{Slot}
 use Rattle.commands.specs.Commands.{Answer, After, after}
-use Rattle.slots.proofs.Unique.{together}
 use Rattle.nx584.specs.declared.CSending.{CSending}
 use Rattle.nx584.specs.Line.{c_answer}
 use Rattle.nx584.proofs.nx584_fresh.Kinds as fresh-kinds
@@ -42,9 +33,12 @@ use Rattle.nx584.proofs.nx584_partition.Kinds as partition-kinds
 use Rattle.nx584.proofs.nx584_partition.Reads as partition
 use Rattle.nx584.proofs.nx584_system.Kinds as system-kinds
 use Rattle.nx584.proofs.nx584_system.Reads as system
-use Rattle.nx584.specs.contracts.nx584_take as take
-use Rattle.nx584.specs.contracts.nx584_tick as tick
-use Rattle.nx584.specs.contracts.nx584_told as told
+use Rattle.nx584.proofs.nx584_take.Kinds as take-kinds
+use Rattle.nx584.proofs.nx584_take.Reads as take
+use Rattle.nx584.proofs.nx584_tick.Kinds as tick-kinds
+use Rattle.nx584.proofs.nx584_tick.Reads as tick
+use Rattle.nx584.proofs.nx584_told.Kinds as told-kinds
+use Rattle.nx584.proofs.nx584_told.Reads as told
 use Rattle.nx584.proofs.nx584_keep.Kinds as keep-kinds
 use Rattle.nx584.proofs.nx584_keep.Reads as keep
 use Rattle.nx584.proofs.nx584_make_room.Kinds as make-room-kinds
@@ -127,25 +121,23 @@ settled : {z : After} {x y : CSending} {xs ys : List Slot} → after (c_answer x
     → (x ≡ y) × (xs ≡ ys)
 settled p q = let e = p ∙ sym q in (ap (λ (w : After). numbered w.answer) e, ap (λ (w : After). w.slots) e)
 
-module _ {M : Type 1} {𝓤 : Ura M} (𝓛 : Logic 𝓤) (mem : Memory → SProp 𝓤) (run : Routine → Fun 𝓤)
-    (x y : CSending) where
-  pub nx584_take_unique : (κs : Lfts 2) (a : Args take.signature κs) (e e' : AtExit take.ended κs)
-      → ent 𝓤 (sep 𝓤 ((take.clauses 𝓛 mem run κs a).ensures tt x e)
-      ((take.clauses 𝓛 mem run κs a).ensures tt y e'))
-      (fact 𝓤 ((x ≡ y) × (e.0.now ≡ e'.0.now)))
-  nx584_take_unique κs a e e' = together 𝓤 settled
+pub nx584_take_unique : (κs : Lfts 2) (a : Dens κs take-kinds.ps)
+    (e e' : AtExit (ended_of 2 take-kinds.ps take-kinds.r) κs)
+    (x y : (res_t take-kinds.r κs).Denot) → take.Post κs a x e → take.Post κs a y e'
+    → (x ≡ y) × (e.0.now ≡ e'.0.now)
+nx584_take_unique κs a e e' x y p q = settled p q
 
-  pub nx584_tick_unique : (κs : Lfts 1) (a : Args tick.signature κs) (e e' : AtExit tick.ended κs)
-      → ent 𝓤 (sep 𝓤 ((tick.clauses 𝓛 mem run κs a).ensures tt x e)
-      ((tick.clauses 𝓛 mem run κs a).ensures tt y e'))
-      (fact 𝓤 ((x ≡ y) × (e.0.now ≡ e'.0.now)))
-  nx584_tick_unique κs a e e' = together 𝓤 settled
+pub nx584_tick_unique : (κs : Lfts 1) (a : Dens κs tick-kinds.ps)
+    (e e' : AtExit (ended_of 1 tick-kinds.ps tick-kinds.r) κs)
+    (x y : (res_t tick-kinds.r κs).Denot) → tick.Post κs a x e → tick.Post κs a y e'
+    → (x ≡ y) × (e.0.now ≡ e'.0.now)
+nx584_tick_unique κs a e e' x y p q = settled p q
 
-  pub nx584_told_unique : (κs : Lfts 2) (a : Args told.signature κs) (e e' : AtExit told.ended κs)
-      → ent 𝓤 (sep 𝓤 ((told.clauses 𝓛 mem run κs a).ensures tt x e)
-      ((told.clauses 𝓛 mem run κs a).ensures tt y e'))
-      (fact 𝓤 ((x ≡ y) × (e.0.now ≡ e'.0.now)))
-  nx584_told_unique κs a e e' = together 𝓤 settled
+pub nx584_told_unique : (κs : Lfts 2) (a : Dens κs told-kinds.ps)
+    (e e' : AtExit (ended_of 2 told-kinds.ps told-kinds.r) κs)
+    (x y : (res_t told-kinds.r κs).Denot) → told.Post κs a x e → told.Post κs a y e'
+    → (x ≡ y) × (e.0.now ≡ e'.0.now)
+nx584_told_unique κs a e e' x y p q = settled p q
 
 pub nx584_version_unique : (κs : Lfts 0) (a : Dens κs version-kinds.ps)
     (e : AtExit (ended_of 0 version-kinds.ps version-kinds.r) κs)

@@ -11,9 +11,9 @@ use Rattle.standard.specs.Words.{laid}
 use Rattle.standard.specs.Messages.{longest}
 use Rattle.standard.specs.Judge.{Handed, handing}
 use Rattle.standard.specs.declared.Verdict.{Verdict}
-use Rattle.standard.specs.declared.Said.{Said}
-use Rattle.standard.specs.declared.Said.TheVariants.{Silent, Gave}
-use Rattle.standard.specs.declared.Written.{Written}
+use Rattle.std.specs.Prelude.{Option}
+use Rattle.std.specs.Prelude.{Some, None}
+use Rattle.standard.specs.Refusals.{Written}
 use Rattle.standard.specs.Writer.{written_of, after_write}
 use Rattle.standard.specs.Table.{is_table, table_after}
 use Rattle.standard.specs.Overview.{Counted, Seen}
@@ -125,14 +125,14 @@ message_said [] = []
 message_said (h ∷ hs) = h.message
 
 -- the length of the message that a verdict of code hands out
-abbrev pub length_said : Said → ℕ
-length_said Silent = 0
-length_said (Gave v) = v.length
+abbrev pub length_said : Option Verdict → ℕ
+length_said None = 0
+length_said (Some v) = v.length
 
 -- a verdict of code; 255 for none
-abbrev pub numbers_said : Said → Verdict
-numbers_said Silent = record { number = 255; type_byte = 0; length = 0 }
-numbers_said (Gave v) = v
+abbrev pub numbers_said : Option Verdict → Verdict
+numbers_said None = record { number = 255; type_byte = 0; length = 0 }
+numbers_said (Some v) = v
 
 -- a message in its array: zero beyond its length
 abbrev pub padded : List ℕ → List ℕ

@@ -1,16 +1,15 @@
 -- What C gets of the station log: include/nx584.h. Refusals and bytes are those of document 02, No. 6 and
 -- No. 7. Assumes nothing.
 use Rattle.std.specs.Prelude.{ℕ, ◌≡◌, List}
-use Rattle.station_log.specs.declared.Found.{Found}
-use Rattle.station_log.specs.Log.{added_of, after_keep}
+use Rattle.station_log.specs.Log.{Place, added_of, after_keep}
 use Rattle.station_log.specs.Room.{won_of, after_room}
 use Rattle.nx584.specs.declared.CWritten.{CWritten}
 use Rattle.nx584.specs.declared.CFound.{CFound}
 use Rattle.nx584.specs.Boundary.{c_written}
 
 -- where a record stands, and its length
-abbrev pub c_found : Found → CFound
-c_found f = record { number = f.number; at = f.at; length = f.length }
+abbrev pub c_found : Place → CFound
+c_found place = record { number = place.number; at = place.at; length = place.length }
 
 -- what `nx584_keep` promises: its number and the bytes that were added, and every byte of the buffer
 pub record CKeeps (log : List ℕ) (used : ℕ) (m : List ℕ) (answer : CWritten) (after : List ℕ) : Type 0 where

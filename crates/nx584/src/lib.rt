@@ -1,37 +1,40 @@
 // What C calls: include/nx584.h. Numbers, byte slices and structs of numbers cross, no enum.
 #![tactic(auto)]
 
-ghost use Rattle.std.specs.Prelude.{◌≡◌, cond, eqb, [], ◌∷◌, ◌+◌, ◌≤◌, length, take, drop, length as ListN·length};
+ghost use Rattle.std.specs.Prelude.{◌≡◌, [], ◌∷◌, ◌≤◌, length, take, drop, replicate};
+ghost use Rattle.standard.specs.Words.{laid};
 ghost use Rattle.std.proofs.Math.Option.{get_or};
 ghost use Rattle.std.specs.Float.{nan};
 ghost use Rattle.standard.specs.declared.Escapes.TheVariants.{Strict, Lenient};
-ghost use Rattle.standard.specs.Messages.{longest, longest_known};
+ghost use Rattle.standard.specs.Refusals.{written_in};
+ghost use Rattle.standard.specs.Messages.{longest_known};
+ghost use Rattle.station_log.specs.Answers.{place_in};
+ghost use Rattle.table.specs.Answers.{part_in};
+ghost use Rattle.grid.specs.Grid.{gridded_in};
 ghost use Rattle.standard.specs.Replies.{reply_of};
-ghost use Rattle.standard.specs.Table.{Applied, applied_to};
+ghost use Rattle.standard.specs.Table.{Applied};
 ghost use Rattle.standard.specs.Overview.{seen_of, share_number, group_values};
 ghost use Rattle.reader.specs.Step.{framing_of};
 ghost use Rattle.commands.specs.Commands.{ended_number, answer_of, after, take_of, tick_of, told_of};
 ghost use Rattle.station_log.specs.Log.{found_of};
 ghost use Rattle.nx584.specs.Line.{c_answer};
 ghost use Rattle.nx584.specs.Station.{c_found, CKeeps, CMakesRoom};
-ghost use Rattle.nx584.specs.Maps.{level_for, level_named, CGrids};
+ghost use Rattle.nx584.specs.Maps.{level_for, c_gridded, CGrids};
 ghost use Rattle.nx584.specs.Records.{c_zone, c_partition, c_system};
-ghost use Rattle.nx584.specs.Boundary.{framing_for, escapes_for, escapes_number, framing_number, mode_number, digit_number, pending_for, mode_for, c_fresh, mode_ok, numbers_said, padded, c_refused, c_reading, with_reply, c_hearing, c_read, CHears, CWrote, c_group, c_overview};
-ghost use Rattle.nx584.specs.Scan.{scanned_as, reader_in, took_in, CScans};
+ghost use Rattle.nx584.specs.Boundary.{framing_for, escapes_for, escapes_number, framing_number, mode_number, digit_number, mode_for, c_fresh, mode_ok, numbers_said, c_reading, c_read, CHears, c_written, CWrote, c_group, c_overview};
+ghost use Rattle.nx584.specs.Scan.{CScans};
 
 use commands::{Ended, Sending, Slot};
-use grid::Level;
-use reader::Mode;
-use standard::{Escapes, Framing, Group, Said, Share, Verdict};
+use grid::{Gridded, Level};
+use reader::{MOST, Mode};
+use standard::{Escapes, Framing, Group, Refusal, Share, Verdict};
+use station_log::Found;
 
 // NX584_VERSION: of the header that this library goes with.
 const VERSION: u32 = 6;
 
 // NX584_LONGEST: the most bytes of a message that is read.
 const LONGEST: usize = standard::LONGEST;
-
-// The most bytes that a reader holds: the length, the longest message and two sums.
-const MOST: usize = LONGEST + 3;
 
 // NX584_STRICT and NX584_LENIENT.
 const STRICT: u8 = 0;
@@ -63,18 +66,11 @@ pub struct CReading {
     pub message: [u8; LONGEST],
 }
 
-// What a read answers but for the frame's bytes: the next reader's numbers, and the verdict's.
+// What a read says beside the next reader: how many bytes it used, and the verdict's numbers.
 #[derive(Clone, Copy)]
-struct CScanned {
-    framing: u8,
-    mode: u8,
-    digit: u8,
-    held: u16,
-    escapes: u8,
+struct CSaid {
     used: usize,
-    verdict: u8,
-    type_byte: u8,
-    length: u8,
+    verdict: Verdict,
 }
 
 // The writer's answer.
@@ -101,13 +97,6 @@ pub struct CGridded {
     pub number: u8,
     pub header: usize,
     pub cells: usize,
-}
-
-// What a width names.
-#[derive(Clone, Copy)]
-enum Width {
-    Names(Level),
-    Nothing,
 }
 
 // The counts of a group or of the site; where known is 0 the share is a NaN.
@@ -182,6 +171,95 @@ pub struct CSending {
     pub message: [u8; commands::LONGEST_COMMAND],
 }
 
+// "A refused call's counts and lengths are 0."
+
+const NOTHING_SENT: Sending = Sending {
+    ended: None,
+    length: 0,
+    message: [0; commands::LONGEST_COMMAND],
+};
+
+impl From<Result<usize, Refusal>> for CWritten {
+    ghost from_gives = { λ w c. c ≡ c_written (written_in w) };
+
+    fn from(written: Result<usize, Refusal>) -> CWritten {
+        CWritten {
+            number: standard::number_of(written),
+            length: written.unwrap_or(0),
+        }
+    }
+}
+
+impl From<Result<Option<Found>, Refusal>> for CFound {
+    ghost from_gives = { λ f c. c ≡ c_found (place_in f) };
+
+    fn from(found: Result<Option<Found>, Refusal>) -> CFound {
+        let number = standard::number_of(found);
+        match found {
+            Ok(Some(Found { at, length })) => CFound { number, at, length },
+            _ => CFound {
+                number,
+                at: 0,
+                length: 0,
+            },
+        }
+    }
+}
+
+impl From<Result<Gridded, Refusal>> for CGridded {
+    ghost from_gives = { λ g c. c ≡ c_gridded (gridded_in g) };
+
+    fn from(gridded: Result<Gridded, Refusal>) -> CGridded {
+        match gridded {
+            Ok(Gridded { header, cells }) => CGridded {
+                number: 0,
+                header,
+                cells,
+            },
+            Err(refusal) => CGridded {
+                number: refusal.number(),
+                header: 0,
+                cells: 0,
+            },
+        }
+    }
+}
+
+impl From<Group> for CGroup {
+    ghost from_gives = { λ g c. c ≡ c_group (group_values g) };
+
+    fn from(group: Group) -> CGroup {
+        CGroup {
+            heard: group.heard,
+            faulted: group.faulted,
+            known: if group.heard == 0 { 0 } else { 1 },
+            share: share_number(group.share),
+        }
+    }
+}
+
+impl From<Result<Sending, Refusal>> for CSending {
+    ghost from_gives = { λ s c. c_answer c ≡ answer_of s };
+
+    fn from(sending: Result<Sending, Refusal>) -> CSending {
+        let number = standard::number_of(sending);
+        let Sending {
+            ended,
+            length,
+            message,
+        } = sending.unwrap_or(NOTHING_SENT);
+        CSending {
+            number,
+            ended: ended_number(ended),
+            length,
+            message,
+        }
+    }
+}
+
+// The numbers of framings, rules, modes, shares and endings are functions: an `impl From` of another
+// crate's type for a number would have to stand in that crate.
+
 fn framing_for(framing: u8) -> Framing
     ensures { result ≡ framing_for framing }
 {
@@ -189,6 +267,15 @@ fn framing_for(framing: u8) -> Framing
         Framing::Binary
     } else {
         Framing::Ascii
+    }
+}
+
+fn framing_number(framing: Framing) -> u8
+    ensures { result ≡ framing_number framing }
+{
+    match framing {
+        Framing::Binary => 0,
+        Framing::Ascii => 1,
     }
 }
 
@@ -211,261 +298,172 @@ fn escapes_number(escapes: Escapes) -> u8
     }
 }
 
-fn framing_number(framing: Framing) -> u8
-    ensures { result ≡ framing_number framing }
-{
-    match framing {
-        Framing::Binary => 0,
-        Framing::Ascii => 1,
-    }
-}
-
-fn framing_of(mode: Mode) -> u8
-    ensures { result ≡ framing_number (framing_of mode) }
-{
-    match mode {
-        Mode::Skipping(f) => framing_number(f),
-        Mode::Open(f) => framing_number(f),
-        Mode::Escape => 0,
-        Mode::Digit(d) => 1,
-    }
-}
-
-fn mode_number(mode: Mode) -> u8
-    ensures { result ≡ mode_number mode }
-{
-    match mode {
-        Mode::Skipping(f) => 0,
-        Mode::Open(f) => 1,
-        Mode::Escape => 2,
-        Mode::Digit(d) => 3,
-    }
-}
-
-fn digit_number(mode: Mode) -> u8
-    ensures { result ≡ digit_number mode }
-{
-    match mode {
-        Mode::Skipping(f) => 0,
-        Mode::Open(f) => 0,
-        Mode::Escape => 0,
-        Mode::Digit(d) => d,
-    }
-}
-
-fn pending_for(framing: Framing, mode: u8, digit: u8) -> Mode
-    ensures { result ≡ pending_for framing mode digit }
-{
-    match framing {
-        Framing::Binary => {
-            if mode == 2 {
-                Mode::Escape
-            } else {
-                Mode::Open(Framing::Binary)
-            }
-        }
-        Framing::Ascii => {
-            if mode == 3 {
-                Mode::Digit(digit)
-            } else {
-                Mode::Open(Framing::Ascii)
-            }
-        }
-    }
-}
-
-fn mode_for(framing: Framing, mode: u8, digit: u8) -> Mode
-    ensures { result ≡ mode_for framing mode digit }
-{
-    if mode == 0 {
-        Mode::Skipping(framing)
-    } else {
-        pending_for(framing, mode, digit)
-    }
-}
-
 // A share that was not heard: C has no case without a number, and a NaN at least poisons sums.
 fn share_number(share: Share) -> f64
     ensures { result ≡ get_or (share_number share) nan }
 {
     match share {
         Share::Share(x) => x,
-        Share::NotHeard => 0.0 / 0.0,
+        Share::NotHeard => f64::NAN,
     }
 }
 
-fn c_group(group: Group) -> CGroup
-    ensures { result ≡ c_group (group_values group) }
+// How the front ended; 0: it did not.
+fn ended_number(ended: Option<Ended>) -> u8
+    ensures { result ≡ ended_number ended }
 {
-    let share = group.share;
-    let heard = group.heard;
-    CGroup {
-        heard: heard,
-        faulted: group.faulted,
-        known: if heard == 0 { 0 } else { 1 },
-        share: share_number(share),
+    match ended {
+        Some(ended) => ended as u8,
+        None => 0,
     }
 }
 
-// The message of so many bytes that stands in a frame after its length byte, in an array that is zero
-// beyond it.
-fn message_of(length: u8, frame: &[u8]) -> [u8; LONGEST]
-    requires { (length ≤ longest_known) × (ListN·length frame.now ≡ longest + 3) }
-    ensures { result ≡ padded (take length (drop 1 frame.now)) }
+// The level that is so many cells wide.
+#[tactic(auto, unfolding(crate::specs::Maps::level_for))]
+fn level_for(width: u8) -> Option<Level>
+    ensures { result ≡ level_for width }
 {
-    let end = length as usize + 1;
-    let mut array = [0u8; LONGEST];
-    array[..length as usize].copy_from_slice(&frame[1..end]);
-    array
-}
-
-// Whether the numbers are a mode's: the rest of the soundness is document 01's.
-fn mode_ok(mode: u8, digit: u8) -> bool
-    ensures { result ≡ mode_ok mode digit }
-{
-    if 3 < mode {
-        return false;
-    }
-    if mode == 3 {
-        return digit <= 15;
-    }
-    true
-}
-
-// A state that is not sound: 12, and its numbers as they were.
-fn not_sound(framing: u8, mode: u8, digit: u8, held: u16, escapes: u8) -> CScanned
-    ensures { result ≡ scanned_as framing mode digit held escapes 12 }
-{
-    CScanned {
-        framing,
-        mode,
-        digit,
-        held,
-        escapes,
-        used: 0,
-        verdict: 12,
-        type_byte: 0,
-        length: 0,
+    match width {
+        16 => Some(Level::Sixteen),
+        8 => Some(Level::Eight),
+        4 => Some(Level::Four),
+        2 => Some(Level::Two),
+        1 => Some(Level::One),
+        _ => None,
     }
 }
 
 // The verdict's numbers; 255 for none.
-fn numbers(said: Said) -> Verdict
+fn numbers(said: Option<Verdict>) -> Verdict
     ensures { result ≡ numbers_said said }
 {
-    match said {
-        Said::Silent => Verdict {
-            number: 255,
+    said.unwrap_or(Verdict {
+        number: 255,
+        type_byte: 0,
+        length: 0,
+    })
+}
+
+// A part of a buffer, over as many zeros as the array has bytes.
+fn array_of<const N: usize>(part: &[u8]) -> [u8; N]
+    requires { length part.now ≤ N }
+    ensures { result ≡ laid (replicate N 0) 0 part.now }
+{
+    let mut array = [0; N];
+    array[..part.len()].copy_from_slice(part);
+    array
+}
+
+// The bytes of a part that a table answers; a refused question has none.
+fn bytes_of(part: Result<&[u8], Refusal>) -> &[u8]
+    ensures { result.now ≡ part_in part.entry }
+{
+    part.unwrap_or(&[])
+}
+
+// A read that is refused: no byte is used.
+fn refused(number: u8) -> CSaid
+    ensures { result ≡ record { used = 0; verdict = record { number = number; type_byte = 0; length = 0 } } }
+{
+    CSaid {
+        used: 0,
+        verdict: Verdict {
+            number,
             type_byte: 0,
             length: 0,
         },
-        Said::Gave(verdict) => verdict,
     }
 }
 
-// A read by numbers, with the frame's bytes in lent memory: a reader is many bytes, and each copy of
-// it would cost a call of one byte as much as the byte.
-fn scan_c(
-    framing: u8,
-    mode: u8,
-    digit: u8,
-    held: u16,
-    escapes: u8,
-    frame: &mut [u8],
-    bytes: &[u8],
-) -> CScanned
-    requires { length frame.old ≡ longest + 3 }
-    ensures { CScans (record { framing = framing; mode = mode; digit = digit; held = held; bytes = frame.old; escapes = escapes }) bytes.now result frame.new }
+impl CReader {
+    // Whether the numbers are a mode's: the rest of the soundness is document 01's.
+    fn mode_ok(&self) -> bool
+        ensures { result ≡ mode_ok self.now.mode self.now.digit }
+    {
+        match self.mode {
+            0..=2 => true,
+            3 => self.digit <= 15,
+            _ => false,
+        }
+    }
+
+    fn mode(&self) -> Mode
+        ensures { result ≡ mode_for (framing_for self.now.framing) self.now.mode self.now.digit }
+    {
+        let framing = framing_for(self.framing);
+        match (framing, self.mode) {
+            (_, 0) => Mode::Skipping(framing),
+            (Framing::Binary, 2) => Mode::Escape,
+            (Framing::Ascii, 3) => Mode::Digit(self.digit),
+            _ => Mode::Open(framing),
+        }
+    }
+
+    fn set_mode(&mut self, mode: Mode)
+        ensures { self.new ≡ record { framing = framing_number (framing_of mode); mode = mode_number mode; digit = digit_number mode; held = self.old.held; bytes = self.old.bytes; escapes = self.old.escapes } }
+    {
+        let (framing, number, digit) = match mode {
+            Mode::Skipping(framing) => (framing_number(framing), 0, 0),
+            Mode::Open(framing) => (framing_number(framing), 1, 0),
+            Mode::Escape => (0, 2, 0),
+            Mode::Digit(digit) => (1, 3, digit),
+        };
+        self.framing = framing;
+        self.mode = number;
+        self.digit = digit;
+    }
+
+    // A read, after which this is the next reader: it is many bytes, and each copy of it would cost a
+    // call of one byte as much as the byte. One that is not sound gets 12, and stays.
+    fn scan(&mut self, bytes: &[u8]) -> CSaid
+        ensures { CScans self.old bytes.now result self.new }
+    {
+        if !self.mode_ok() {
+            return refused(12);
+        }
+        let from = self.mode();
+        let by = escapes_for(self.escapes);
+        let scanned = reader::scan(by, from, self.held as usize, &mut self.bytes, bytes);
+        let verdict = numbers(scanned.said);
+        if verdict.number == 12 {
+            return refused(12);
+        }
+        self.set_mode(scanned.mode);
+        self.held = scanned.held as u16;
+        CSaid {
+            used: scanned.used,
+            verdict,
+        }
+    }
+
+    // The message of so many bytes, which stands in the frame after its length byte.
+    fn message(&self, length: u8) -> &[u8]
+        requires { length ≤ longest_known }
+        ensures { result.now ≡ take length (drop 1 self.now.bytes) }
+    {
+        &self.bytes[1..length as usize + 1]
+    }
+}
+
+// A read. Most calls hand out no message: theirs is zero where the answer goes back, and is not
+// copied. Inlined, since a call would copy the whole answer once more.
+#[inline(always)]
+fn read(mut reader: CReader, bytes: &[u8]) -> CReading
+    ensures { result ≡ c_reading (c_read reader bytes.now) }
 {
-    if !mode_ok(mode, digit) {
-        return not_sound(framing, mode, digit, held, escapes);
-    }
-    let from = mode_for(framing_for(framing), mode, digit);
-    let scanned = reader::scan(escapes_for(escapes), from, held as usize, frame, bytes);
-    let next = scanned.mode;
-    let said = scanned.said;
-    let verdict = numbers(said);
-    if verdict.number == 12 {
-        return not_sound(framing, mode, digit, held, escapes);
-    }
-    CScanned {
-        framing: framing_of(next),
-        mode: mode_number(next),
-        digit: digit_number(next),
-        held: scanned.held as u16,
-        escapes,
-        used: scanned.used,
+    let said = reader.scan(bytes);
+    let verdict = said.verdict;
+    CReading {
+        reader,
+        used: said.used,
         verdict: verdict.number,
         type_byte: verdict.type_byte,
         length: verdict.length,
-    }
-}
-
-fn reader_in(scanned: CScanned, bytes: [u8; MOST]) -> CReader
-    ensures { result ≡ reader_in scanned bytes }
-{
-    CReader {
-        framing: scanned.framing,
-        mode: scanned.mode,
-        digit: scanned.digit,
-        held: scanned.held,
-        bytes,
-        escapes: scanned.escapes,
-    }
-}
-
-// What was read. Most calls hand out no message: theirs is zero where the answer goes back, and is
-// not copied.
-fn took(scanned: CScanned, frame: [u8; MOST], message: [u8; LONGEST]) -> CReading
-    ensures { result ≡ took_in scanned frame message }
-{
-    CReading {
-        reader: reader_in(scanned, frame),
-        used: scanned.used,
-        verdict: scanned.verdict,
-        type_byte: scanned.type_byte,
-        length: scanned.length,
-        message,
-    }
-}
-
-fn heard(scanned: CScanned, frame: [u8; MOST], reply: u8, message: [u8; LONGEST]) -> CHearing
-    ensures { result ≡ with_reply (took_in scanned frame message) reply }
-{
-    CHearing {
-        reader: reader_in(scanned, frame),
-        used: scanned.used,
-        verdict: scanned.verdict,
-        type_byte: scanned.type_byte,
-        reply,
-        length: scanned.length,
-        message,
-    }
-}
-
-// 11: the reader as it was handed in, and no reply.
-fn no_table(reader: CReader) -> CHearing
-    ensures { result ≡ c_hearing (c_refused reader 11) }
-{
-    CHearing {
-        reader,
-        used: 0,
-        verdict: 11,
-        type_byte: 0,
-        reply: 0,
-        length: 0,
-        message: [0u8; LONGEST],
-    }
-}
-
-// A good message, which stands in the frame after its length byte, goes into the table.
-fn store(table: &mut [u8], verdict: u8, length: u8, frame: &[u8])
-    requires { (length ≤ longest_known) × (ListN·length frame.now ≡ longest + 3) }
-    ensures { table.new ≡ cond (eqb verdict 0) (applied_to table.old (take length (drop 1 frame.now))) table.old }
-{
-    let end = length as usize + 1;
-    if verdict == 0 {
-        table::store(table, &frame[1..end]);
+        message: if verdict.length == 0 {
+            [0; LONGEST]
+        } else {
+            array_of(reader.message(verdict.length))
+        },
     }
 }
 
@@ -478,7 +476,7 @@ fn fresh(escapes: Escapes, framing: u8) -> CReader
         mode: 0,
         digit: 0,
         held: 0,
-        bytes: [0u8; MOST],
+        bytes: [0; MOST],
         escapes: escapes_number(escapes),
     }
 }
@@ -504,42 +502,15 @@ pub extern "C" fn nx584_fresh_lenient(framing: u8) -> CReader
 pub extern "C" fn nx584_read(reader: CReader, bytes: &[u8]) -> CReading
     ensures { result ≡ c_reading (c_read reader bytes.now) }
 {
-    let mut frame = reader.bytes;
-    let scanned = scan_c(
-        reader.framing,
-        reader.mode,
-        reader.digit,
-        reader.held,
-        reader.escapes,
-        &mut frame,
-        bytes,
-    );
-    if scanned.length == 0 {
-        return took(scanned, frame, [0u8; LONGEST]);
-    }
-    took(scanned, frame, message_of(scanned.length, &frame))
+    read(reader, bytes)
 }
 
-// A read of one byte, which `nx584_read` could do too: its whole answer would be copied once more.
+// A read of one byte.
 #[unsafe(no_mangle)]
 pub extern "C" fn nx584_step(reader: CReader, byte: u8) -> CReading
     ensures { result ≡ c_reading (c_read reader (byte ∷ [])) }
 {
-    let one = [byte];
-    let mut frame = reader.bytes;
-    let scanned = scan_c(
-        reader.framing,
-        reader.mode,
-        reader.digit,
-        reader.held,
-        reader.escapes,
-        &mut frame,
-        &one,
-    );
-    if scanned.length == 0 {
-        return took(scanned, frame, [0u8; LONGEST]);
-    }
-    took(scanned, frame, message_of(scanned.length, &frame))
+    read(reader, &[byte])
 }
 
 // The frame of a message, into the part of `out` that starts at `place`.
@@ -547,11 +518,7 @@ pub extern "C" fn nx584_step(reader: CReader, byte: u8) -> CReading
 pub extern "C" fn nx584_write(message: &[u8], framing: u8, out: &mut [u8], place: usize) -> CWritten
     ensures { CWrote message.now framing out.old place result out.new }
 {
-    let written = writer::write(message, framing_for(framing), out, place);
-    CWritten {
-        number: written.number,
-        length: written.length,
-    }
+    CWritten::from(writer::write(message, framing_for(framing), out, place))
 }
 
 // The number of the message with which a host answers a verdict; 0: none.
@@ -567,7 +534,7 @@ pub extern "C" fn nx584_reply(verdict: u8, type_byte: u8) -> u8
 pub extern "C" fn nx584_apply(table: &mut [u8], message: &[u8]) -> u8
     ensures { Applied table.old message.now result table.new }
 {
-    table::apply(table, message)
+    standard::number_of(table::apply(table, message))
 }
 
 // The sixteen groups and the site of a table.
@@ -575,55 +542,53 @@ pub extern "C" fn nx584_apply(table: &mut [u8], message: &[u8]) -> u8
 pub extern "C" fn nx584_view(table: &[u8]) -> COverview
     ensures { result ≡ c_overview (seen_of table.now) }
 {
-    let none = c_group(overview::with_share(0, 0));
-    let mut groups = [none; 16];
-    let number = table::refusal(table);
-    if number != 0 {
-        return COverview {
-            number: number,
-            groups: groups,
-            site: none,
-        };
-    }
-    let mut heard: u16 = 0;
-    let mut faulted: u16 = 0;
-    for index in 0..16 {
-        let group = overview::group(table, index);
-        heard += group.heard;
-        faulted += group.faulted;
-        groups[index as usize] = c_group(group);
-    }
-    COverview {
-        number: 0,
-        groups: groups,
-        site: c_group(overview::with_share(heard, faulted)),
+    match overview::view(table) {
+        Ok(seen) => {
+            let site = CGroup::from(seen.site);
+            let mut groups = [site; 16];
+            for (index, place) in groups.iter_mut().enumerate() {
+                *place = CGroup::from(seen.groups[index]);
+            }
+            COverview {
+                number: 0,
+                groups,
+                site,
+            }
+        }
+        Err(refusal) => {
+            let none = CGroup::from(overview::with_share(0, 0));
+            COverview {
+                number: refusal.number(),
+                groups: [none; 16],
+                site: none,
+            }
+        }
     }
 }
 
 // A read, the reply to its verdict, and a good message put into the table.
 #[unsafe(no_mangle)]
-pub extern "C" fn nx584_hear(reader: CReader, table: &mut [u8], bytes: &[u8]) -> CHearing
+pub extern "C" fn nx584_hear(mut reader: CReader, table: &mut [u8], bytes: &[u8]) -> CHearing
     ensures { CHears reader table.old bytes.now result table.new }
 {
-    if table::refusal(table) != 0 {
-        return no_table(reader);
+    let said = match table::check(table) {
+        Ok(()) => reader.scan(bytes),
+        Err(refusal) => refused(refusal.number()),
+    };
+    let verdict = said.verdict;
+    let message = reader.message(verdict.length);
+    if verdict.number == 0 {
+        table::store(table, message);
     }
-    let mut frame = reader.bytes;
-    let scanned = scan_c(
-        reader.framing,
-        reader.mode,
-        reader.digit,
-        reader.held,
-        reader.escapes,
-        &mut frame,
-        bytes,
-    );
-    store(table, scanned.verdict, scanned.length, &frame);
-    let reply = nx584_reply(scanned.verdict, scanned.type_byte);
-    if scanned.length == 0 {
-        return heard(scanned, frame, reply, [0u8; LONGEST]);
+    CHearing {
+        reader,
+        used: said.used,
+        verdict: verdict.number,
+        type_byte: verdict.type_byte,
+        reply: nx584_reply(verdict.number, verdict.type_byte),
+        length: verdict.length,
+        message: array_of(message),
     }
-    heard(scanned, frame, reply, message_of(scanned.length, &frame))
 }
 
 // What a table says of a zone.
@@ -631,17 +596,12 @@ pub extern "C" fn nx584_hear(reader: CReader, table: &mut [u8], bytes: &[u8]) ->
 pub extern "C" fn nx584_zone(table: &[u8], zone: u8) -> CZone
     ensures { result ≡ c_zone table.now zone }
 {
-    let mark = table::zone_mark(table, zone);
-    let flags = table::zone_short(table, zone);
-    let mut number = 0;
-    let part = table::zone_part(table, zone, &mut number);
-    let mut bytes = [0u8; 6];
-    bytes[..part.len()].copy_from_slice(part);
+    let part = table::zone_part(table, zone);
     CZone {
-        number: mark.number,
-        mark: mark.value,
-        flags: flags.value,
-        bytes: bytes,
+        number: standard::number_of(part),
+        mark: table::zone_mark(table, zone).unwrap_or(0),
+        flags: table::zone_short(table, zone).unwrap_or(0),
+        bytes: array_of(bytes_of(part)),
     }
 }
 
@@ -650,17 +610,13 @@ pub extern "C" fn nx584_zone(table: &[u8], zone: u8) -> CZone
 pub extern "C" fn nx584_partition(table: &[u8], partition: u8) -> CPartition
     ensures { result ≡ c_partition table.now partition }
 {
-    let mut number = 0;
-    let part = table::partition_part(table, partition, &mut number);
-    let mut record = [0u8; 9];
-    record[..part.len()].copy_from_slice(part);
-    let mut bytes = [0u8; 7];
-    bytes.copy_from_slice(&record[1..8]);
+    let part = table::partition_part(table, partition);
+    let record = array_of::<9>(bytes_of(part));
     CPartition {
-        number: number,
+        number: standard::number_of(part),
         mark: record[0],
         flags: record[8],
-        bytes: bytes,
+        bytes: array_of(&record[1..8]),
     }
 }
 
@@ -669,43 +625,12 @@ pub extern "C" fn nx584_partition(table: &[u8], partition: u8) -> CPartition
 pub extern "C" fn nx584_system(table: &[u8]) -> CSystem
     ensures { result ≡ c_system table.now }
 {
-    let mut number = 0;
-    let part = table::system_part(table, &mut number);
-    let mut record = [0u8; 12];
-    record[..part.len()].copy_from_slice(part);
-    let mut bytes = [0u8; 11];
-    bytes.copy_from_slice(&record[1..12]);
+    let part = table::system_part(table);
+    let record = array_of::<12>(bytes_of(part));
     CSystem {
-        number: number,
+        number: standard::number_of(part),
         mark: record[0],
-        bytes: bytes,
-    }
-}
-
-// How the front ended.
-fn ended_number(ended: Ended) -> u8
-    ensures { result ≡ ended_number ended }
-{
-    match ended {
-        Ended::Not => 0,
-        Ended::GivenUp => 1,
-        Ended::Acknowledged => 0x1D,
-        Ended::Failed => 0x1C,
-        Ended::Rejected => 0x1F,
-        Ended::Replied => 0x12,
-    }
-}
-
-fn c_sending(sending: Sending) -> CSending
-    ensures { c_answer result ≡ answer_of sending }
-{
-    let ended = sending.ended;
-    let message = sending.message;
-    CSending {
-        number: sending.number,
-        ended: ended_number(ended),
-        length: sending.length,
-        message,
+        bytes: array_of(&record[1..12]),
     }
 }
 
@@ -714,7 +639,7 @@ fn c_sending(sending: Sending) -> CSending
 pub extern "C" fn nx584_take(slots: &mut [Slot], message: &[u8]) -> CSending
     ensures { after (c_answer result) slots.new ≡ take_of message.now slots.old }
 {
-    c_sending(slots::take(slots, message))
+    CSending::from(slots::take(slots, message))
 }
 
 // Half a second passes.
@@ -722,7 +647,7 @@ pub extern "C" fn nx584_take(slots: &mut [Slot], message: &[u8]) -> CSending
 pub extern "C" fn nx584_tick(slots: &mut [Slot]) -> CSending
     ensures { after (c_answer result) slots.new ≡ tick_of slots.old }
 {
-    c_sending(slots::tick(slots))
+    CSending::from(slots::tick(slots))
 }
 
 // A message was heard.
@@ -730,7 +655,7 @@ pub extern "C" fn nx584_tick(slots: &mut [Slot]) -> CSending
 pub extern "C" fn nx584_told(slots: &mut [Slot], message: &[u8]) -> CSending
     ensures { after (c_answer result) slots.new ≡ told_of message.now slots.old }
 {
-    c_sending(slots::told(slots, message))
+    CSending::from(slots::told(slots, message))
 }
 
 // To compare with NX584_VERSION.
@@ -746,11 +671,7 @@ pub extern "C" fn nx584_version() -> u32
 pub extern "C" fn nx584_keep(log: &mut [u8], used: usize, message: &[u8]) -> CWritten
     ensures { CKeeps log.old used message.now result log.new }
 {
-    let added = station_log::keep(log, used, message);
-    CWritten {
-        number: added.number,
-        length: added.length,
-    }
+    CWritten::from(station_log::keep(log, used, message))
 }
 
 // The log made smaller where it stands.
@@ -758,11 +679,7 @@ pub extern "C" fn nx584_keep(log: &mut [u8], used: usize, message: &[u8]) -> CWr
 pub extern "C" fn nx584_make_room(log: &mut [u8], used: usize) -> CWritten
     ensures { CMakesRoom log.old used result log.new }
 {
-    let won = station_log::make_room(log, used);
-    CWritten {
-        number: won.number,
-        length: won.length,
-    }
+    CWritten::from(station_log::make_room(log, used))
 }
 
 // The newest record about a zone.
@@ -770,26 +687,7 @@ pub extern "C" fn nx584_make_room(log: &mut [u8], used: usize) -> CWritten
 pub extern "C" fn nx584_newest(log: &[u8], used: usize, zone: u8) -> CFound
     ensures { result ≡ c_found (found_of log.now used zone) }
 {
-    let found = station_log::find(log, used, zone);
-    CFound {
-        number: found.number,
-        at: found.at,
-        length: found.length,
-    }
-}
-
-// The level that is so many cells wide.
-fn level_for(width: u8) -> Width
-    ensures { level_named result ≡ level_for width }
-{
-    match width {
-        16 => Width::Names(Level::Sixteen),
-        8 => Width::Names(Level::Eight),
-        4 => Width::Names(Level::Four),
-        2 => Width::Names(Level::Two),
-        1 => Width::Names(Level::One),
-        _ => Width::Nothing,
-    }
+    CFound::from(station_log::find(log, used, zone))
 }
 
 // A level of the zone map, by its width; one that names none is 8, after 11.
@@ -802,23 +700,8 @@ pub extern "C" fn nx584_grid(
 ) -> CGridded
     ensures { CGrids table.now width header.old cells.old result header.new cells.new }
 {
-    let named = level_for(width);
-    match named {
-        Width::Names(level) => {
-            let gridded = grid::grid(table, level, header, cells);
-            CGridded {
-                number: gridded.number,
-                header: gridded.header,
-                cells: gridded.cells,
-            }
-        }
-        Width::Nothing => {
-            let number = table::refusal(table);
-            CGridded {
-                number: if number == 0 { 8 } else { number },
-                header: 0,
-                cells: 0,
-            }
-        }
+    match level_for(width) {
+        Some(level) => CGridded::from(grid::grid(table, level, header, cells)),
+        None => CGridded::from(table::check(table).and(Err(Refusal::Value))),
     }
 }

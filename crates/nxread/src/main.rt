@@ -20,11 +20,11 @@ fn tell(capture: &[u8], out: &mut [u8]) -> usize
     ensures out_after { take result out.new ≡ report_of capture.now }
     ensures prefix_len { result ≤ length out.new }
 {
-    let written = text::report(capture, out);
-    written.length
+    text::report(capture, out).unwrap()
 }
 
-// Reads until the buffer is full or the input ends, and says how many bytes it put at its beginning.
+// Reads until the buffer is full or the input ends, and says how many bytes it put at its beginning:
+// `read_exact` refuses an input that ends sooner, and `read_to_end` needs a heap.
 fn read_full(from: &mut impl Read, out: &mut [u8]) -> io::Result<usize>
     ensures { IfOk result (λ n. n ≤ length out.new) }
 {

@@ -2,60 +2,52 @@
 // those are faulted, and the share. The table is known here by what it answers about a zone.
 #![tactic(auto)]
 
-ghost use Rattle.std.specs.Prelude.{◌≡◌, cond, ◌&&◌, suc, ◌+◌, ◌<◌, ◌≤◌, min, ltb, length};
-ghost use Rattle.standard.specs.Table.{table_bytes, is_table};
-ghost use Rattle.standard.specs.Overview.{heard_of, faulted_of, share_of, share_number, counted, heard_from, faulted_from, run_of, seen_of, group_values, overview_values};
+ghost use Rattle.std.specs.Prelude.{◌≡◌, cond, ◌&&◌, suc, min, ltb};
+ghost use Rattle.standard.specs.Table.{is_table};
+ghost use Rattle.standard.specs.Overview.{heard_of, faulted_of, share_of, share_number, counted, run_of, seen_of, group_values, overview_values};
 
-use standard::{Counts, Group, Overview, Share};
+use standard::{Counts, Group, Overview, Refusal, Share};
+
+const NOTHING: Counts = Counts {
+    heard: 0,
+    faulted: 0,
+};
 
 // f64 holds both counts exactly, so the division is what rounds, once.
-fn share_of(heard: u16, faulted: u16) -> Share
-    ensures { share_number result ≡ share_of heard faulted }
+fn share_of(counts: Counts) -> Share
+    ensures { share_number result ≡ share_of counts.heard counts.faulted }
 {
-    if heard == 0 {
-        return Share::NotHeard;
+    if counts.heard == 0 {
+        Share::NotHeard
+    } else {
+        Share::Share(counts.faulted as f64 / counts.heard as f64)
     }
-    Share::Share(faulted as f64 / heard as f64)
 }
 
 // Counts, and the share that is made from them.
-pub fn with_share(heard: u16, faulted: u16) -> Group
-    ensures { group_values result ≡ counted heard faulted }
+fn shared(counts: Counts) -> Group
+    ensures { group_values result ≡ counted counts.heard counts.faulted }
 {
-    let share = share_of(heard, faulted);
     Group {
-        heard: heard,
-        faulted: faulted,
-        share: share,
+        heard: counts.heard,
+        faulted: counts.faulted,
+        share: share_of(counts),
     }
 }
 
-// "Among the heard": of two bits, without a branch that nobody can foresee.
+// The same of two numbers.
+pub fn with_share(heard: u16, faulted: u16) -> Group
+    ensures { group_values result ≡ counted heard faulted }
+{
+    shared(Counts { heard, faulted })
+}
+
+// "Among the heard": of two bits, without a branch that nobody can foresee. With `u8::min` a zone map
+// took a third longer.
 fn smaller(a: u8, b: u8) -> u8
     ensures { result ≡ min a b }
 {
     if a < b { a } else { b }
-}
-
-// The counts of a run of zones of a whole table.
-fn run_at(table: &[u8], from: u8, n: u8) -> Counts
-    requires table_len { length table.now ≡ table_bytes }
-    requires n_bound { from + n ≤ 256 }
-    ensures { result ≡ record { heard = heard_from table.now from n; faulted = faulted_from table.now from n } }
-{
-    let mut heard: u16 = 0;
-    let mut faulted: u16 = 0;
-    for j in 0..n {
-        let zone = from + j;
-        let answer = table::zone_heard(table, zone);
-        let short = table::zone_short(table, zone);
-        heard += answer.value as u16;
-        faulted += smaller(answer.value, short.value % 2) as u16;
-    }
-    Counts {
-        heard: heard,
-        faulted: faulted,
-    }
 }
 
 // The counts of n zones, which on the line are `from` and those after it: nothing is heard where the
@@ -63,72 +55,47 @@ fn run_at(table: &[u8], from: u8, n: u8) -> Counts
 pub fn run(table: &[u8], from: u8, n: u8) -> Counts
     ensures { result ≡ run_of table.now from n }
 {
-    let nothing = Counts {
-        heard: 0,
-        faulted: 0,
-    };
-    if table::refusal(table) != 0 {
-        return nothing;
+    let mut counts = NOTHING;
+    if table::check(table).is_err() || 256 < from as u16 + n as u16 {
+        return counts;
     }
-    if 256 < from as u16 + n as u16 {
-        return nothing;
+    for j in 0..n {
+        let zone = from + j;
+        let heard = table::zone_heard(table, zone).unwrap_or(0);
+        let short = table::zone_short(table, zone).unwrap_or(0);
+        counts.heard += heard as u16;
+        counts.faulted += smaller(heard, short % 2) as u16;
     }
-    run_at(table, from, n)
+    counts
 }
 
-// Group index + 1: on the line its zones are 16 * index and the fifteen after it.
-fn group_at(table: &[u8], index: u8) -> Group
-    requires table_len { length table.now ≡ table_bytes }
-    requires index_bound { index < 16 }
-    ensures { group_values result ≡ counted (heard_of table.now (suc index)) (faulted_of table.now (suc index)) }
-{
-    let counts = run_at(table, 16 * index, 16);
-    with_share(counts.heard, counts.faulted)
-}
-
-// Group index + 1 by itself: nothing is heard where the table is refused, nor above group 16.
+// Group index + 1, on the line the zones from 16 * index on: nothing is heard where the table is
+// refused, nor above group 16.
 pub fn group(table: &[u8], index: u8) -> Group
     ensures { group_values result ≡ cond (is_table table.now && ltb index 16) (counted (heard_of table.now (suc index)) (faulted_of table.now (suc index))) (counted 0 0) }
 {
-    if table::refusal(table) != 0 {
-        return with_share(0, 0);
+    if index < 16 {
+        shared(run(table, 16 * index, 16))
+    } else {
+        shared(NOTHING)
     }
-    if 16 <= index {
-        return with_share(0, 0);
-    }
-    group_at(table, index)
 }
 
-// All sixteen groups and the site, or the number with which the table is refused.
-pub fn view(table: &[u8]) -> Overview
+// All sixteen groups and the site, or why the table is refused.
+pub fn view(table: &[u8]) -> Result<Overview, Refusal>
     ensures { overview_values result ≡ seen_of table.now }
 {
-    let none = Group {
-        heard: 0,
-        faulted: 0,
-        share: Share::NotHeard,
-    };
-    let mut groups = [none; 16];
-    let number = table::refusal(table);
-    if number != 0 {
-        return Overview {
-            number: number,
-            groups: groups,
-            site: none,
-        };
+    table::check(table)?;
+    let mut groups = [shared(NOTHING); 16];
+    let mut counts = NOTHING;
+    for (index, place) in groups.iter_mut().enumerate() {
+        let group = group(table, index as u8);
+        counts.heard += group.heard;
+        counts.faulted += group.faulted;
+        *place = group;
     }
-    let mut heard: u16 = 0;
-    let mut faulted: u16 = 0;
-    for index in 0..16 {
-        let group = group_at(table, index);
-        heard += group.heard;
-        faulted += group.faulted;
-        groups[index as usize] = group;
-    }
-    let site = with_share(heard, faulted);
-    Overview {
-        number: 0,
-        groups: groups,
-        site: site,
-    }
+    Ok(Overview {
+        groups,
+        site: shared(counts),
+    })
 }

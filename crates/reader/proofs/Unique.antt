@@ -7,7 +7,8 @@ use mathlib.Core.List.{List, [], ◌∷◌}
 use borrow.Fn.Kinds.{Dens, ended_of, res_t}
 use contract.Lifetimes.{Lfts}
 use denote.Triple.Clauses.{AtExit}
-use Rattle.standard.specs.declared.Said.{Said}
+use Rattle.std.specs.Prelude.{Option}
+use Rattle.standard.specs.declared.Verdict.{Verdict}
 use Rattle.standard.proofs.Stream.{verdicts_same}
 use Rattle.reader.specs.declared.Reader.{Reader}
 use Rattle.reader.specs.declared.Stepped.{Stepped}
@@ -44,17 +45,17 @@ pub sound_unique : (κs : Lfts 0) (a : Dens κs sound-kinds.ps) (e : AtExit (end
 sound_unique κs a e x y p q = p ∙ sym q
 
 -- two readers and verdicts that are both given are the same
-record Same (r₁ r₂ : Reader) (s₁ s₂ : Said) : Type 0 where
+record Same (r₁ r₂ : Reader) (s₁ s₂ : Option Verdict) : Type 0 where
   reader : r₁ ≡ r₂
   said : s₁ ≡ s₂
 
-gives_same : {a : Given} {r₁ r₂ : Reader} {s₁ s₂ : Said} → Gives r₁ s₁ a → Gives r₂ s₂ a → Same r₁ r₂ s₁ s₂
+gives_same : {a : Given} {r₁ r₂ : Reader} {s₁ s₂ : Option Verdict} → Gives r₁ s₁ a → Gives r₂ s₂ a → Same r₁ r₂ s₁ s₂
 gives_same {a} {r₁} {r₂} {s₁} {s₂} p q = record {
   reader = p.next ∙ sym q.next;
   said = verdicts_same s₁ s₂ (p.verdict ∙ sym q.verdict);
 }
 
-abbrev stepped : Reader → Said → Stepped
+abbrev stepped : Reader → Option Verdict → Stepped
 stepped reader said = record { reader = reader; said = said }
 
 pub step_unique : (κs : Lfts 0) (a : Dens κs step-kinds.ps) (e : AtExit (ended_of 0 step-kinds.ps step-kinds.r) κs)

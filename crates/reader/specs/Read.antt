@@ -3,7 +3,8 @@
 use Rattle.std.specs.Prelude.{ℕ, suc, ◌+◌, ◌≡◌, Bool, cond, List, [], ◌∷◌, map, eqb, length, get_or, take, replicate}
 use Rattle.standard.specs.declared.Framing.{Framing}
 use Rattle.standard.specs.declared.Escapes.{Escapes}
-use Rattle.standard.specs.declared.Said.{Said}
+use Rattle.std.specs.Prelude.{Option}
+use Rattle.standard.specs.declared.Verdict.{Verdict}
 use Rattle.standard.specs.Words.{laid}
 use Rattle.standard.specs.Messages.{longest}
 use Rattle.standard.specs.Judge.{Handed, handing, verdict_for, verdicts_in, handed_in}
@@ -76,18 +77,18 @@ then_read (h ∷ hs) first later = first
 -- ---- what is promised
 
 -- that an answer's reader and verdict are those of `a`: the verdict's numbers, and its message in the reader's array
-pub record Gives (reader : Reader) (said : Said) (a : Given) : Type 0 where
+pub record Gives (reader : Reader) (said : Option Verdict) (a : Given) : Type 0 where
   pub next : reader ≡ a.reader
   pub verdict : verdicts_in said ≡ map verdict_for a.said
   pub handed : handed_in said reader.bytes ≡ a.said
 
 -- `read` answers with the reader, the verdict and the used bytes of `read_of`
-pub record Reads (r : Reader) (bs : List ℕ) (reader : Reader) (used : ℕ) (said : Said) : Type 0 where
+pub record Reads (r : Reader) (bs : List ℕ) (reader : Reader) (used : ℕ) (said : Option Verdict) : Type 0 where
   pub gives : Gives reader said (read_of r bs)
   pub uses : used ≡ (read_of r bs).used
 
 -- `step` gives what a read of the one byte gives
-abbrev pub Steps : Reader → ℕ → Reader → Said → Type 0
+abbrev pub Steps : Reader → ℕ → Reader → Option Verdict → Type 0
 Steps r b reader said = Gives reader said (read_of r (b ∷ []))
 
 -- ---- with the frame's bytes in lent memory
@@ -97,6 +98,6 @@ unfoldable pub lent_read : Reader → List ℕ → Given
 lent_read r bs = cond (eqb (length r.bytes) (longest + 3)) (read_of r bs) (not_sound r)
 
 -- `scan` answers with the reader, the verdict and the used bytes of `lent_read`
-pub record Lent (r : Reader) (bs : List ℕ) (reader : Reader) (used : ℕ) (said : Said) : Type 0 where
+pub record Lent (r : Reader) (bs : List ℕ) (reader : Reader) (used : ℕ) (said : Option Verdict) : Type 0 where
   pub gives : Gives reader said (lent_read r bs)
   pub uses : used ≡ (lent_read r bs).used

@@ -102,6 +102,10 @@ takes_character (L ∷ rest) b =
     (ends Ascii (whole_of ((not (eqb b 0x0D), 3) ∷ []) L rest) (L ∷ rest))
     (takes_digit none (L ∷ rest) (value_of b))
 
+-- a byte in a binary frame: the 7Dh of an escape, or one recovered
+abbrev pub takes_binary : List ℕ → ℕ → Step
+takes_binary held b = cond (eqb b 0x7D) (goes Escape held) (takes Binary held b)
+
 -- a byte after a 7Dh: "15 bad escape, .. before 4 at the same byte"
 abbrev pub takes_escaped : Escapes → List ℕ → ℕ → Step
 takes_escaped rule held b =
@@ -110,7 +114,7 @@ takes_escaped rule held b =
 -- a byte that is no start
 abbrev pub goes_on : Escapes → Mode → List ℕ → ℕ → Step
 goes_on rule (Skipping f) held b = goes (Skipping f) held
-goes_on rule (Open Binary) held b = cond (eqb b 0x7D) (goes Escape held) (takes Binary held b)
+goes_on rule (Open Binary) held b = takes_binary held b
 goes_on rule (Open Ascii) held b = takes_character held b
 goes_on rule Escape held b = takes_escaped rule held b
 goes_on rule (Digit h) held b = takes_digit (some h) held (value_of b)

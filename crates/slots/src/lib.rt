@@ -2,78 +2,54 @@
 // work by value. Where the slots are not eight, no slot is read: 22.
 #![tactic(auto)]
 
-ghost use Rattle.std.specs.Prelude.{◌≡◌, length};
-ghost use Rattle.commands.specs.Commands.{answer_of, after, row, take_of, tick_of, told_of};
+ghost use Rattle.std.specs.Prelude.{◌≡◌, ◌≢◌, [], length};
+ghost use Rattle.commands.specs.Commands.{answer_of, says, after, take_of, tick_of, told_of};
+ghost use Rattle.commands.specs.declared.Called.{Called};
 
-use commands::{Eight, Sending, Slot};
+use commands::{Called, Line, Sending, Slot};
+use standard::Refusal;
 
-// The eight slots, copied out.
-fn load(slots: &[Slot]) -> Eight
-    requires { length slots.now ≡ 8 }
-    ensures { row result ≡ slots.now }
+// The eight slots are copied out, handed to a call, and stored back as it leaves them.
+fn on_line<F: FnOnce(Line) -> Called>(slots: &mut [Slot], call: F) -> Result<Sending, Refusal>
+    requires { F.IsAlwaysCallable call }
+    ensures others { length slots.old ≢ 8 → after (answer_of result) slots.new ≡ after (says 22 0 []) slots.old }
+    ensures eight { length slots.old ≡ 8 → (called : Called) × F.post call slots.old called × (result ≡ called.answer) × (slots.new ≡ called.line) }
 {
-    Eight {
-        s0: slots[0],
-        s1: slots[1],
-        s2: slots[2],
-        s3: slots[3],
-        s4: slots[4],
-        s5: slots[5],
-        s6: slots[6],
-        s7: slots[7],
-    }
-}
-
-// The eight slots, stored back.
-fn save(slots: &mut [Slot], q: Eight)
-    requires { length slots.old ≡ 8 }
-    ensures { slots.new ≡ row q }
-{
-    slots[0] = q.s0;
-    slots[1] = q.s1;
-    slots[2] = q.s2;
-    slots[3] = q.s3;
-    slots[4] = q.s4;
-    slots[5] = q.s5;
-    slots[6] = q.s6;
-    slots[7] = q.s7;
+    let Ok(line) = Line::try_from(&*slots) else {
+        return Err(Refusal::SlotsNotSound);
+    };
+    let called = call(line);
+    slots.copy_from_slice(&called.line);
+    called.answer
 }
 
 // A command is taken.
-pub fn take(slots: &mut [Slot], message: &[u8]) -> Sending
+pub fn take(slots: &mut [Slot], message: &[u8]) -> Result<Sending, Refusal>
     ensures { after (answer_of result) slots.new ≡ take_of message.now slots.old }
 {
-    if slots.len() != 8 {
-        return commands::refused(22);
-    }
-    let q = load(slots);
-    let r = commands::take(q, message);
-    save(slots, r.line);
-    r.answer
+    on_line(
+        slots,
+        |line|
+            ensures { after (answer_of result.answer) result.line ≡ take_of message.entry.now line }
+        { commands::take(line, message) },
+    )
 }
 
 // Half a second passes.
-pub fn tick(slots: &mut [Slot]) -> Sending
+pub fn tick(slots: &mut [Slot]) -> Result<Sending, Refusal>
     ensures { after (answer_of result) slots.new ≡ tick_of slots.old }
 {
-    if slots.len() != 8 {
-        return commands::refused(22);
-    }
-    let q = load(slots);
-    let r = commands::tick(q);
-    save(slots, r.line);
-    r.answer
+    on_line(slots, commands::tick)
 }
 
 // A message was heard.
-pub fn told(slots: &mut [Slot], message: &[u8]) -> Sending
+pub fn told(slots: &mut [Slot], message: &[u8]) -> Result<Sending, Refusal>
     ensures { after (answer_of result) slots.new ≡ told_of message.now slots.old }
 {
-    if slots.len() != 8 {
-        return commands::refused(22);
-    }
-    let q = load(slots);
-    let r = commands::told(q, message);
-    save(slots, r.line);
-    r.answer
+    on_line(
+        slots,
+        |line|
+            ensures { after (answer_of result.answer) result.line ≡ told_of message.entry.now line }
+        { commands::told(line, message) },
+    )
 }

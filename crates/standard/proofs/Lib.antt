@@ -5,6 +5,7 @@ pub mod Tables
 pub mod Messages
 pub mod Status
 pub mod Refusals
+pub mod Sheet
 pub mod Framings
 pub mod Judge
 pub mod Decided

@@ -3,16 +3,18 @@ use Prim.Native.Nat.{ℕ, zero, suc, ◌%◌, ◌≤◌, ◌<◌}
 use native.Mathlib.Nat.{mod-lt, le_trans}
 use native.Mathlib.Omega.{arith}
 use mathlib.Core.Path.{◌≡◌, refl, sym, ap, subst, ◌∙◌}
-use mathlib.Core.Bool.{Bool, true, false, cond, not, ◌&&◌, ◌||◌, false≢true}
+use mathlib.Core.Bool.{Bool, true, false, cond, not, ◌&&◌, ◌||◌, true≢false, false≢true}
 use mathlib.Core.List.{List, [], ◌∷◌, ◌++◌, map}
 use mathlib.Core.Logic.{inl, inr}
 use lib.Dec.{eqb, leb, ltb, eqb→eq, leb→le, lit<}
 use lib.ListN.{length}
 use types.Run.{OneOf}
 use borrow.Author.Tests.{eqb-true, eqb-false, leb-true, leb-false, eq-eqb, ne_eqb, le-leb, lt-ltb, le-ltb}
+use Rattle.std.proofs.Common.{Some, None, is_some}
+use Rattle.std.proofs.lemmas.Option.{none-some, cond_some}
 use Rattle.standard.specs.Words.{byte, bit, first_of}
 use Rattle.standard.specs.Messages.{longest, length_ok, known, length_in, longest_known, number_of, length_for}
-use Rattle.standard.specs.Messages.{among, clear, x10_ok, clock_ok, values_ok, message_tests, check_of}
+use Rattle.standard.specs.Messages.{recognised, length_asked, among, clear, x10_ok, clock_ok, values_ok, message_tests, check_of}
 use Rattle.standard.proofs.Tables.{below}
 
 pub both_true : (a b : Bool) → (a && b) ≡ true → (a ≡ true) × (b ≡ true)
@@ -353,3 +355,29 @@ check_four m =
 pub check_six : (m : List ℕ) → length_ok (length m) ≡ true → length_for (byte 1 m) ≡ 0 → check_of m ≡ 6
 unfolding check_of
 check_six m h unknown = rw (h, unknown)
+
+-- ---- the length as code says it
+
+pub asked_none : (t : ℕ) → length_asked t ≡ None → length_for t ≡ 0
+asked_none t = go (eqb (length_for t) 0) refl
+  where
+    go : (b : Bool) → eqb (length_for t) 0 ≡ b → cond (not b) (Some (length_for t)) None ≡ None → length_for t ≡ 0
+    go true e h = eqb-true _ _ e
+    go false e h = absurd (none-some _ (sym h))
+
+-- a length that is asked, which is never 0
+pub record Asked (t n : ℕ) : Type 0 where
+  pub is : length_for t ≡ n
+  pub some : length_for t ≡ 0 → ⊥
+
+pub asked_some : (t n : ℕ) → length_asked t ≡ Some n → Asked t n
+asked_some t n h =
+    let (is_asked, same) = cond_some (recognised t) (length_for t) n h in
+    record { is = same; some = λ e. true≢false (sym is_asked ∙ ap (λ b. not b) (eq-eqb _ _ e)) }
+
+pub asked_is : (t : ℕ) → is_some (length_asked t) ≡ recognised t
+asked_is t = go (recognised t)
+  where
+    go : (b : Bool) → is_some (cond b (Some (length_for t)) None) ≡ b
+    go true = refl
+    go false = refl

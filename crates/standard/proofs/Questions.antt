@@ -45,6 +45,15 @@ whole_is t = go (is_table t)
     go true = refl
     go false = refl
 
+-- where it is refused, its number is 11
+pub refused_11 : (t : List ℕ) → (table_refusal t ≡ 0 → ⊥) → table_refusal t ≡ 11
+unfolding table_refusal
+refused_11 t = go (is_table t)
+  where
+    go : (whole : Bool) → (first_of ((not whole, 11) ∷ []) ≡ 0 → ⊥) → first_of ((not whole, 11) ∷ []) ≡ 11
+    go true bad = absurd (bad refl)
+    go false bad = refl
+
 -- 11 comes before 8
 pub partition_after : (t : List ℕ) (partition : ℕ)
     → partition_refusal t partition ≡ cond (eqb (table_refusal t) 0) (cond (leb partition 7) 0 8) (table_refusal t)

@@ -15,7 +15,10 @@ use Rattle.standard.specs.declared.Share.TheVariants.{NotHeard}
 use Rattle.standard.specs.declared.Share.TheVariants.{Share as IsShare}
 use Rattle.standard.specs.declared.Counts.{Counts}
 use Rattle.standard.specs.declared.Group.{Group}
+use Rattle.std.specs.Prelude.{Result, Ok, Err}
 use Rattle.standard.specs.declared.Overview.{Overview}
+use Rattle.standard.specs.declared.Refusal.{Refusal}
+use Rattle.standard.proofs.Sheet.{number_same, number_not_0}
 use Rattle.standard.specs.Words.{up_to, total}
 use Rattle.standard.specs.Table.{table_bytes, is_table, heard_zone, short_faulted}
 use Rattle.standard.specs.Questions.{table_refusal}
@@ -168,7 +171,7 @@ nth f (suc n) i d h =
     (λ b. get_or-append (map f (up_to n)) (f n ∷ []) d i (omega arith) ∙ nth f n i d b) (eq-or-lt_of_le below))
 
 -- the group at a place has the counts of its number, one more, and the share made from those
-pub group_told : (t : List ℕ) (o : Overview) → overview_values o ≡ seen_of t → length t ≡ table_bytes → (i : ℕ) → i < 16
+pub group_told : (t : List ℕ) (o : Overview) → overview_values (Ok o) ≡ seen_of t → length t ≡ table_bytes → (i : ℕ) → i < 16
     → (d : Group)
     → group_values (get_or o.groups i d) ≡ counted (heard_of t (suc i)) (faulted_of t (suc i))
 group_told t o told whole i b d =
@@ -201,10 +204,12 @@ all_settled f one [] (y ∷ b) h = cc
 all_settled f one (x ∷ a) [] h = cc
 all_settled f one (x ∷ a) (y ∷ b) h = ap₂ ◌∷◌ (one x y (cc)) (all_settled f one a b (cc))
 
--- of two overviews
-pub overview_settled : (a b : Overview) → overview_values a ≡ overview_values b → a ≡ b
-overview_settled a b h = λ i. record {
-  number = ap (λ (s : Seen). s.number) h i;
+-- of two overviews, refused or not
+pub overview_settled : (a b : Result Overview Refusal) → overview_values a ≡ overview_values b → a ≡ b
+overview_settled (Ok a) (Ok b) h = ap Ok (λ i. record {
   groups = all_settled group_values group_settled a.groups b.groups (ap (λ (s : Seen). s.groups) h) i;
   site = group_settled a.site b.site (ap (λ (s : Seen). s.site) h) i;
-}
+})
+overview_settled (Ok a) (Err r) h = absurd (number_not_0 r (sym (ap (λ (s : Seen). s.number) h)))
+overview_settled (Err r) (Ok b) h = absurd (number_not_0 r (ap (λ (s : Seen). s.number) h))
+overview_settled (Err r) (Err q) h = ap Err (number_same r q (ap (λ (s : Seen). s.number) h))

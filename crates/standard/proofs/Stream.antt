@@ -10,8 +10,9 @@ use lib.ListN.{length, length-append}
 use Rattle.standard.specs.declared.Framing.{Framing}
 use Rattle.standard.specs.declared.Framing.TheVariants.{Binary, Ascii}
 use Rattle.standard.specs.declared.Escapes.{Escapes}
-use Rattle.standard.specs.declared.Said.{Said}
-use Rattle.standard.specs.declared.Said.TheVariants.{Silent, Gave}
+use Rattle.std.specs.Prelude.{Option}
+use Rattle.standard.specs.declared.Verdict.{Verdict}
+use Rattle.std.specs.Prelude.{Some, None}
 use Rattle.standard.specs.Messages.{length_ok, among, check_of}
 use Rattle.standard.specs.Framing.{start_of, stop_of, coding, body_of, frame_of}
 use Rattle.standard.specs.Judge.{Judged, decided, unfinished, handing, judge, verdicts_in}
@@ -22,11 +23,11 @@ use Rattle.standard.proofs.Judge.{judge_every}
 use Rattle.standard.proofs.Decided.{handed_part, handed_amid_part}
 
 -- the verdicts tell the case and its values
-pub verdicts_same : (x y : Said) → verdicts_in x ≡ verdicts_in y → x ≡ y
-verdicts_same Silent Silent e = refl
-verdicts_same Silent (Gave v) e = absurd (nil≢cons e)
-verdicts_same (Gave v) Silent e = absurd (cons≢nil e)
-verdicts_same (Gave v) (Gave w) e = ap Gave (head-eq_of_cons-eq e)
+pub verdicts_same : (x y : Option Verdict) → verdicts_in x ≡ verdicts_in y → x ≡ y
+verdicts_same None None e = refl
+verdicts_same None (Some v) e = absurd (nil≢cons e)
+verdicts_same (Some v) None e = absurd (cons≢nil e)
+verdicts_same (Some v) (Some w) e = ap Some (head-eq_of_cons-eq e)
 
 -- ---- an intact frame
 

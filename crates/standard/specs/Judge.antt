@@ -6,8 +6,8 @@ use Rattle.standard.specs.declared.Framing.{Framing}
 use Rattle.standard.specs.declared.Framing.TheVariants.{Binary, Ascii}
 use Rattle.standard.specs.declared.Escapes.{Escapes}
 use Rattle.standard.specs.declared.Verdict.{Verdict}
-use Rattle.standard.specs.declared.Said.{Said}
-use Rattle.standard.specs.declared.Said.TheVariants.{Silent, Gave}
+use Rattle.std.specs.Prelude.{Option as AtMostOne}
+use Rattle.std.specs.Prelude.{Some, None}
 use Rattle.standard.specs.Words.{byte, first_of}
 use Rattle.standard.specs.Sums.{sums_of}
 use Rattle.standard.specs.Messages.{length_ok, message_tests}
@@ -87,12 +87,12 @@ abbrev pub verdict_for : Handed → Verdict
 verdict_for h = record { number = h.verdict; type_byte = h.type_byte_of; length = length h.message }
 
 -- the verdicts of "at most one verdict"
-abbrev pub verdicts_in : Said → List Verdict
-verdicts_in Silent = []
-verdicts_in (Gave v) = v ∷ []
+abbrev pub verdicts_in : AtMostOne Verdict → List Verdict
+verdicts_in None = []
+verdicts_in (Some v) = v ∷ []
 
 -- the paper's number and values of each case; a message stands in the reader's bytes after the length byte
-abbrev pub handed_in : Said → List ℕ → List Handed
-handed_in Silent bytes = []
-handed_in (Gave v) bytes =
+abbrev pub handed_in : AtMostOne Verdict → List ℕ → List Handed
+handed_in None bytes = []
+handed_in (Some v) bytes =
     record { verdict = v.number; type_byte_of = v.type_byte; message = take v.length (drop 1 bytes) } ∷ []

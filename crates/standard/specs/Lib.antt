@@ -1,4 +1,5 @@
 pub mod Words
+pub mod Refusals
 pub mod Text
 pub mod Sums
 pub mod Messages

@@ -1,5 +1,5 @@
 -- Document 01, "Length", "Type byte" and "The 41 messages". Assumes nothing.
-use Rattle.std.specs.Prelude.{ℕ, ◌%◌, Bool, true, false, cond, not, ◌&&◌, ◌||◌, List, [], ◌∷◌, eqb, leb, length}
+use Rattle.std.specs.Prelude.{ℕ, ◌%◌, Option, Some, None, Bool, true, false, cond, not, ◌&&◌, ◌||◌, List, [], ◌∷◌, eqb, leb, length}
 use Rattle.standard.specs.Words.{byte, bit, first_of}
 
 -- document 02, No. 2: "Lengths 1 to 255 are now read"
@@ -77,6 +77,10 @@ length_for t = cond (eqb (bit 6 t) 0) (length_in known (number_of t)) 0
 
 abbrev pub recognised : ℕ → Bool
 recognised t = not (eqb (length_for t) 0)
+
+-- the same as code says it: none where the number is unrecognised
+abbrev pub length_asked : ℕ → Option ℕ
+length_asked t = cond (recognised t) (Some (length_for t)) None
 
 abbrev pub among : ℕ → List ℕ → Bool
 among n [] = false

@@ -1,5 +1,5 @@
 -- Document 01, "The overview". Groups and zones have the paper's numbers here, from 1. Assumes nothing.
-use Rattle.std.specs.Prelude.{ℕ, zero, suc, ◌+◌, ◌-◌, ◌*◌, ◌≤◌, ◌<◌, min, ◌≡◌, false, cond, ◌&&◌, ◌↔◌, List, map, T, leb, pos, replicate, Float}
+use Rattle.std.specs.Prelude.{ℕ, zero, suc, ◌+◌, ◌-◌, ◌*◌, ◌≤◌, ◌<◌, min, ◌≡◌, false, cond, ◌&&◌, ◌↔◌, List, map, T, leb, pos, replicate, Float, Result, Ok, Err}
 use Rattle.std.proofs.Math.Option.{Option, none, some}
 use Rattle.std.specs.Float.{fin, Format, binary64}
 use Rattle.std.specs.Float.Ieee.{round, le, is_nan}
@@ -9,6 +9,8 @@ use Rattle.standard.specs.declared.Share.TheVariants.{Share as IsShare}
 use Rattle.standard.specs.declared.Counts.{Counts}
 use Rattle.standard.specs.declared.Group.{Group}
 use Rattle.standard.specs.declared.Overview.{Overview}
+use Rattle.standard.specs.declared.Refusal.{Refusal}
+use Rattle.standard.specs.Refusals.{refusal_number}
 use Rattle.standard.specs.Words.{up_to, total}
 use Rattle.standard.specs.Table.{is_table, heard_zone, short_faulted}
 
@@ -99,8 +101,9 @@ run_of t from n =
 abbrev pub group_values : Group → Counted
 group_values g = record { heard = g.heard; faulted = g.faulted; share = share_number g.share }
 
-abbrev pub overview_values : Overview → Seen
-overview_values o = record { number = o.number; groups = map group_values o.groups; site = group_values o.site }
+abbrev pub overview_values : Result Overview Refusal → Seen
+overview_values (Ok o) = record { number = 0; groups = map group_values o.groups; site = group_values o.site }
+overview_values (Err refusal) = record { number = refusal_number refusal; groups = replicate 16 (counted 0 0); site = counted 0 0 }
 
 -- ---- what is said of counts and shares
 

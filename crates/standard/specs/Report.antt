@@ -3,7 +3,7 @@ use Rattle.std.specs.Prelude.{ℕ, ◌+◌, ◌/◌, ◌%◌, ◌≡◌, cond, e
 use mathlib.Core.List.{List, [], ◌∷◌, ◌++◌, flat_map}
 use Rattle.standard.specs.declared.Framing.TheVariants.{Binary}
 use Rattle.standard.specs.declared.Escapes.TheVariants.{Lenient}
-use Rattle.standard.specs.declared.Written.{Written}
+use Rattle.standard.specs.Refusals.{Written}
 use Rattle.standard.specs.Words.{laid}
 use Rattle.standard.specs.Framing.{two_digits}
 use Rattle.standard.specs.Judge.{Handed, carries_type}

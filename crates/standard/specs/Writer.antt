@@ -1,7 +1,7 @@
 -- Document 01, "Verdicts and refusals": what the writer answers, and the buffer afterwards. Assumes nothing.
 use Rattle.std.specs.Prelude.{ℕ, ◌-◌, ◌≡◌, Bool, cond, ◌||◌, List, [], ◌∷◌, ◌++◌, eqb, ltb, length}
 use Rattle.standard.specs.declared.Framing.{Framing}
-use Rattle.standard.specs.declared.Written.{Written}
+use Rattle.standard.specs.Refusals.{Written}
 use Rattle.standard.specs.Words.{first_of, laid}
 use Rattle.standard.specs.Messages.{message_tests}
 use Rattle.standard.specs.Framing.{frame_of}

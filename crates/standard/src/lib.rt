@@ -4,6 +4,7 @@
 
 ghost use Rattle.std.specs.Prelude.{◌≡◌, ◌<◌};
 ghost use Rattle.standard.specs.Framing.{start_of, two_digits, digit};
+ghost use Rattle.standard.specs.Refusals.{refusal_number, number_in};
 ghost use Rattle.standard.specs.Replies.{reply_number};
 
 // The longest message that is read: "Lengths 1 to 255 are now read".
@@ -43,27 +44,50 @@ pub struct Verdict {
     pub length: u8,
 }
 
-// At most one verdict.
-#[derive(Clone, Copy)]
-pub enum Said {
-    Silent,
-    Gave(Verdict),
+// Why a call is refused: the rows of the printed sheet.
+#[derive(Clone, Copy, Debug, PartialEq, Eq)]
+pub enum Refusal {
+    Length = 4,
+    Unrecognised = 6,
+    OtherLength = 7,
+    Value = 8,
+    NoRoom = 9,
+    NoTable = 11,
+    NotSound = 12,
+    NoCommand = 13,
+    AllWaiting = 14,
+    BeyondLog = 16,
+    LogNotSound = 17,
+    NotKept = 18,
+    SlotsNotSound = 22,
 }
 
-// The writer's answer: 0 and the frame's length, or the refusal's number and length 0.
-#[derive(Clone, Copy)]
-pub struct Written {
-    pub number: u8,
-    pub length: usize,
+impl Refusal {
+    // Its number on the sheet.
+    pub fn number(self) -> u8
+        ensures { result ≡ refusal_number self }
+    {
+        self as u8
+    }
+}
+
+// The number of an answer: 0, or the refusal's.
+pub fn number_of<T: Copy>(answer: Result<T, Refusal>) -> u8
+    ensures { result ≡ number_in answer }
+{
+    match answer {
+        Ok(_) => 0,
+        Err(refusal) => refusal.number(),
+    }
 }
 
 // What the host replies.
 #[derive(Clone, Copy)]
 pub enum Reply {
-    Nothing,
-    Acknowledge,
-    NegativeAcknowledge,
-    Rejected,
+    Nothing = 0,
+    Acknowledge = 0x1D,
+    NegativeAcknowledge = 0x1E,
+    Rejected = 0x1F,
 }
 
 // A share, or "not heard", which holds no number.
@@ -88,10 +112,9 @@ pub struct Group {
     pub share: Share,
 }
 
-// The overview: 0 and the counts, or the refusal's number and nothing heard.
+// The overview: all sixteen groups, and the site.
 #[derive(Clone, Copy)]
 pub struct Overview {
-    pub number: u8,
     pub groups: [Group; 16],
     pub site: Group,
 }
@@ -124,10 +147,5 @@ fn digit(d: u8) -> u8
 pub fn reply_number(reply: Reply) -> u8
     ensures { result ≡ reply_number reply }
 {
-    match reply {
-        Reply::Nothing => 0,
-        Reply::Acknowledge => 0x1D,
-        Reply::NegativeAcknowledge => 0x1E,
-        Reply::Rejected => 0x1F,
-    }
+    reply as u8
 }

@@ -2,27 +2,31 @@
 use Prim.Native.Nat.{ℕ, ◌+◌, ◌-◌, ◌≤◌}
 use native.Mathlib.Omega.{arith}
 use mathlib.Core.Path.{◌≡◌, refl, sym, ap, ap₂, subst, ◌∙◌}
-use mathlib.Core.Bool.{Bool, true, false, cond, false≢true}
+use mathlib.Core.Bool.{Bool, true, false, cond}
 use mathlib.Core.Option.{Option, none, some, map, get_or}
 use mathlib.Core.List.{List, [], ◌∷◌, ◌++◌}
 use lib.Dec.{eqb}
-use lib.ListN.{length, take, drop, length-append, length-take, length-drop, take-append-drop}
-use lib.Seq.{length-take-le, take-length, drop_at, drop-append-le, take-append-le}
-use borrow.Author.Tests.{eqb-true}
-use Rattle.station_log.specs.declared.Found.{Found}
-use Rattle.station_log.specs.Log.{record_of, joined, trailer, last_message, walked_back, all_kept, records_of, is_list, sound}
+use lib.ListN.{length, take, drop, length-append, length-drop, take-append-drop}
+use lib.Seq.{take-length, drop_at, drop-append-le, take-append-le}
+use borrow.Author.Tests.{eqb-true, ne_eqb}
+use Rattle.std.specs.Prelude.{None, Some, Ok, Err}
+use Rattle.standard.specs.declared.Refusal.{Refusal}
+use Rattle.standard.specs.Questions.{Answered}
+use Rattle.standard.specs.Refusals.{refusal_number}
+use Rattle.station_log.specs.Log.{record_of, joined, walked_back, all_kept, records_of, is_list, sound}
 use Rattle.station_log.specs.Log.{about, from_newest, first_record, first_place, newest_from, newest_of, newest_place, beyond}
-use Rattle.station_log.specs.Log.{log_refusal, found_of}
-use Rattle.station_log.specs.Places.{start_of, found_in}
-use Rattle.station_log.proofs.Walking.{records_joined}
-use Rattle.station_log.proofs.Backwards.{Back, sound_records}
+use Rattle.station_log.specs.Log.{log_refusal, Place, found_of}
+use Rattle.station_log.specs.Answers.{Finds}
+use Rattle.station_log.specs.Places.{Ends, EndsWithNone, found_in}
+use Rattle.station_log.proofs.Walking.{no_bytes, records_joined}
+use Rattle.station_log.proofs.Backwards.{records_back, sound_at_end, sound_records, unsound_none}
 use Rattle.station_log.proofs.Refusing.{log_16, log_else, asked}
 
-abbrev pub nothing : ℕ → Found
+abbrev pub nothing : ℕ → Place
 nothing number = record { number = number; at = 0; length = 0 }
 
 -- what is found is told by the list of records
-abbrev listed : Option (List (List ℕ)) → ℕ → Found
+abbrev listed : Option (List (List ℕ)) → ℕ → Place
 listed w zone = record {
   number = cond (is_list w) 0 17;
   at = first_place (from_newest zone (get_or w []));
@@ -34,64 +38,69 @@ unfolding found_in sound
 found_listed log zone = refl
 
 -- no log
-pub found_none : (log : List ℕ) (zone : ℕ) → records_of log ≡ none → found_in log zone ≡ nothing 17
+pub found_unsound : (log : List ℕ) (zone : ℕ) → sound log ≡ false → found_in log zone ≡ nothing 17
 unfolding from_newest first_place first_record
-found_none log zone e = found_listed log zone ∙ ap (λ (w : Option (List (List ℕ))). listed w zone) e
+found_unsound log zone h =
+    found_listed log zone ∙ ap (λ (w : Option (List (List ℕ))). listed w zone) (unsound_none log h)
 
 -- an empty log has none
 pub found_empty : (zone : ℕ) → found_in [] zone ≡ nothing 0
 unfolding found_in sound records_of walked_back all_kept from_newest first_place first_record
 found_empty zone = refl
 
--- a record about another zone is passed over
-pub found_other : (log : List ℕ) (zone : ℕ) → Back log → about zone (last_message log) ≡ false
-    → found_in (take (start_of log) log) zone ≡ found_in log zone
-unfolding from_newest
-found_other log zone b h =
-    found_listed (take (start_of log) log) zone
-    ∙ go (records_of (take (start_of log) log))
-    ∙ sym (found_listed log zone ∙ ap (λ (w : Option (List (List ℕ))). listed w zone) b.records)
-  where
-    go : (w : Option (List (List ℕ))) → listed w zone ≡ listed (map (λ ms. last_message log ∷ ms) w) zone
-    go none = refl
-    go (some ms) = rw h refl
+-- a log at whose end no record stands is empty
+pub found_all : (log : List ℕ) (zone : ℕ) → EndsWithNone log → sound log ≡ true → found_in log zone ≡ nothing 0
+found_all log zone h s =
+    ap (λ (l : List ℕ). found_in l zone) (no_bytes log (eqb-true (length log) 0 (sound_at_end log h ∙ s)))
+    ∙ found_empty zone
 
--- a record about it is the newest, if all before it is a log
-pub found_here : (log : List ℕ) (zone : ℕ) → Back log → about zone (last_message log) ≡ true
-    → sound (take (start_of log) log) ≡ true
-    → found_in log zone ≡ record { number = 0; at = start_of log; length = length log - start_of log }
-unfolding sound from_newest first_place first_record
-found_here log zone b h s = go (records_of (take (start_of log) log)) refl s
-  where
-    go : (w : Option (List (List ℕ))) → records_of (take (start_of log) log) ≡ w → is_list w ≡ true
-        → found_in log zone ≡ record { number = 0; at = start_of log; length = length log - start_of log }
-    go none e t = absurd (false≢true t)
-    go (some older) e t =
-        let start = b.start in
-        let within = b.ended.within in
-        let less = b.less in
-        let place : length (joined older) ≡ start_of log =
-        sym (ap length (records_joined (take (start_of log) log) older e).bytes)
-        ∙ length-take-le (start_of log) log (omega arith) in
-        let message : length (last_message log) ≡ trailer log = rw (length-take, length-drop) (omega arith) in
-        let size : length (record_of (last_message log)) ≡ length log - start_of log =
-        length-append (last_message log) (length (last_message log) ∷ []) ∙ (omega arith) in
-        let all : records_of log ≡ some (last_message log ∷ older) =
-        b.records ∙ ap (map (λ ms. last_message log ∷ ms)) e in
-        found_listed log zone
-        ∙ ap (λ (w : Option (List (List ℕ))). listed w zone) all
-        ∙ rw h (ap₂ (λ (p n : ℕ). record { number = 0; at = p; length = n }) place size)
+module _ {log older m : List ℕ} (zone : ℕ) (b : Ends log older m) where
+  -- a record about another zone is passed over
+  pub found_other : about zone m ≡ false → found_in older zone ≡ found_in log zone
+  unfolding from_newest
+  found_other h =
+      found_listed older zone
+      ∙ go (records_of older)
+      ∙ sym (found_listed log zone ∙ ap (λ (w : Option (List (List ℕ))). listed w zone) (records_back b))
+    where
+      go : (w : Option (List (List ℕ))) → listed w zone ≡ listed (map (λ ms. m ∷ ms) w) zone
+      go none = refl
+      go (some ms) = rw h refl
 
--- and else there is no log
-pub found_unsound : (log : List ℕ) (zone : ℕ) → Back log → sound (take (start_of log) log) ≡ false
-    → found_in log zone ≡ nothing 17
-unfolding sound
-found_unsound log zone b s = go (records_of (take (start_of log) log)) refl s
-  where
-    go : (w : Option (List (List ℕ))) → records_of (take (start_of log) log) ≡ w → is_list w ≡ false
-        → found_in log zone ≡ nothing 17
-    go none e t = found_none log zone (b.records ∙ ap (map (λ ms. last_message log ∷ ms)) e)
-    go (some older) e t = absurd (false≢true (sym t))
+  -- a record about it is the newest, if all before it is a log
+  pub found_here : about zone m ≡ true → sound older ≡ true
+      → record { number = 0; at = length older; length = length log - length older } ≡ found_in log zone
+  unfolding from_newest first_place first_record
+  found_here h s =
+      let all = sound_records older s in
+      let place : length older ≡ length (joined all.0) = ap length (records_joined older all.0 all.1).bytes in
+      let n = ap length b.bytes in
+      let k = length-append older (record_of m) in
+      let size : length log - length older ≡ length (record_of m) = omega arith in
+      sym
+      (found_listed log zone
+      ∙ ap (λ (w : Option (List (List ℕ))). listed w zone) (records_back b ∙ ap (map (λ ms. m ∷ ms)) all.1)
+      ∙ newest all.0
+      ∙ sym (ap₂ (λ (p n : ℕ). record { number = 0; at = p; length = n }) place size))
+    where
+      newest : (ms : List (List ℕ))
+          → listed (some (m ∷ ms)) zone
+          ≡ record { number = 0; at = length (joined ms); length = length (record_of m) }
+      newest ms = rw h refl
+
+-- ---- as an answer says it
+
+module _ {place : Place} where
+  pub finds_none : place ≡ nothing 0 → Finds place (Ok None)
+  finds_none e = rw e (record { says = refl; none = refl })
+
+  pub finds_refused : (refusal : Refusal) → place ≡ nothing (refusal_number refusal) → Finds place (Err refusal)
+  finds_refused refusal e = rw e (record { says = refl; none = refl })
+
+  pub finds_one : (at size : ℕ) → record { number = 0; at = at; length = size } ≡ place → 1 ≤ size
+      → Finds place (Ok (Some (record { at = at; length = size })))
+  finds_one at size e some_bytes =
+      record { says = e; none = sym (ap (λ (p : Place). eqb p.length 0) (sym e) ∙ ne_eqb size 0 (λ z. omega arith)) }
 
 -- ---- where it stands
 
@@ -161,7 +170,7 @@ module _ (log : List ℕ) (used zone : ℕ) where
       go (some ms) = refl
 
 -- THE PART THAT IS HANDED OUT IS THAT RECORD, and lies within the buffer
-pub record Handed (log : List ℕ) (used zone : ℕ) (found : Found) : Type 0 where
+pub record Handed (log : List ℕ) (used zone : ℕ) (found : Place) : Type 0 where
   pub within : found.at + found.length ≤ length log
   pub part : take found.length (drop found.at log)
       ≡ cond (eqb (log_refusal log used) 0) (newest_of (take used log) zone) []
@@ -194,3 +203,13 @@ handed log used zone = go (eqb (log_refusal log used) 0) refl
         let s = stands_in log used zone (eqb-true (log_refusal log used) 0 e) in
         record { within = s.within; part = s.there ∙ rw e refl }
     go false e = record { within = omega arith; part = rw e refl }
+
+-- so it is what `newest` answers
+pub answered : (log : List ℕ) (used zone : ℕ) (place : Place) → place ≡ found_of log used zone
+    → Answered [] (log_refusal log used) (newest_of (take used log) zone) place.number
+    (take place.length (drop place.at log))
+unfolding found_of
+answered log used zone place e = record {
+  says = ap (λ (x : Place). x.number) e;
+  gives = (subst (Handed log used zone) (sym e) (handed log used zone)).part;
+}

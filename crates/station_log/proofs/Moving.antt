@@ -8,7 +8,7 @@ use mathlib.Core.List.{List, [], ◌∷◌, ◌++◌, append_assoc, append-nil}
 use lib.ListN.{length, get_or, take, drop, set, length-take, length-drop}
 use lib.Seq.{sets, drop-set-lt, get_or-drop, take-suc, take-length, drop-cons, sets-eq}
 use Rattle.standard.specs.Words.{Put, laid}
-use Rattle.standard.proofs.Put.{put_one, put_then, put_length, put_laid}
+use Rattle.standard.proofs.Put.{put_then, put_length, put_laid}
 use Rattle.station_log.specs.Cells.{record_at, records_at, Apart}
 
 -- ---- what stands behind the stores
@@ -30,42 +30,10 @@ put_there {l} {part} {l'} {i} {n} k p h = sym (at l') ∙ ap (λ (r : List ℕ).
 
 -- ---- one record
 
--- one more of its bytes is moved down: it stands behind those moved
-pub move_byte : {log log' : List ℕ} (to from i : ℕ) → Put log to (take i (drop from log)) log' (to + i) → to ≤ from
-    → from + i < length log
-    → Put log to (take (i + 1) (drop from log)) (set log' (to + i) (get_or log' (from + i) 0)) (to + (i + 1))
-move_byte {log} {log'} to from i p below inside =
-    let part = drop from log in
-    let fits : i < length part = rw length-drop (omega arith) in
-    let byte : get_or log' (from + i) 0 ≡ get_or part i 0 =
-    put_there (from + i) p (omega arith) ∙ sym (get_or-drop from log i 0) in
-    let more : take i part ++ (get_or log' (from + i) 0 ∷ []) ≡ take (i + 1) part =
-    ap (λ (b : ℕ). take i part ++ (b ∷ [])) byte
-    ∙ sym (ap (λ (n : ℕ). take n part) (add-one i) ∙ take-suc part i 0 fits) in
-    let q = put_then p (put_one log' (to + i) (get_or log' (from + i) 0)) in
-    record {
-      bytes = q.bytes ∙ ap (sets log to) more;
-      end = again_one ∙ q.end ∙ ap (λ (r : List ℕ). to + length r) more;
-    }
-  where
-    again_one : to + (i + 1) ≡ to + i + 1
-    again_one = omega arith
-
 -- a record's length
 pub record_long : (log : List ℕ) (last : ℕ) → last < length log → get_or log last 0 ≤ last
     → length (record_at log last) ≡ get_or log last 0 + 1
 record_long log last inside fits = rw (length-take, length-drop) (omega arith)
-
--- all of them are
-pub move_whole : {log log' : List ℕ} (to last i : ℕ)
-    → Put log to (take i (drop (last + 1 - (get_or log last 0 + 1)) log)) log' (to + i) → i ≡ get_or log last 0 + 1
-    → last < length log → to + get_or log last 0 ≤ last → log' ≡ laid log to (record_at log last)
-move_whole {log} {log'} to last i p whole inside fits =
-    let from : last + 1 - (get_or log last 0 + 1) ≡ last - get_or log last 0 = omega arith in
-    let long = record_long log last inside (omega arith) in
-    p.bytes
-    ∙ ap₂ (λ (n k : ℕ). sets log to (take n (drop k log))) whole from
-    ∙ sets-eq (record_at log last) log to (omega arith)
 
 -- ---- records, one after another
 

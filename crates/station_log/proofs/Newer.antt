@@ -10,9 +10,8 @@ use lib.Dec.{eqb}
 use lib.ListN.{length, take, length-append}
 use lib.Seq.{length-take-le}
 use borrow.Author.Tests.{ne_eqb}
-use Rattle.station_log.specs.declared.Found.{Found}
 use Rattle.station_log.specs.Log.{record_of, joined, records_of, about, from_newest, first_record, first_place, newest_from}
-use Rattle.station_log.specs.Log.{newest_of}
+use Rattle.station_log.specs.Log.{newest_of, Place}
 use Rattle.station_log.specs.Log.{log_refusal, found_of, keep_refusal}
 use Rattle.station_log.specs.Runs.{Station, log_in, keeping, any_about}
 use Rattle.station_log.proofs.Walking.{records_joined}
@@ -67,7 +66,7 @@ found_list log used zone ms h e =
 pub none_exactly : (log : List ℕ) (used zone : ℕ) (ms : List (List ℕ)) → log_refusal log used ≡ 0
     → records_of (take used log) ≡ some ms → eqb (found_of log used zone).length 0 ≡ not (any_about zone ms)
 none_exactly log used zone ms h e =
-    ap (λ (f : Found). eqb f.length 0) (found_list log used zone ms h e) ∙ listed_none zone ms
+    ap (λ (f : Place). eqb f.length 0) (found_list log used zone ms h e) ∙ listed_none zone ms
 
 -- it stands nowhere then
 pub none_at_0 : (log : List ℕ) (used zone : ℕ) → (found_of log used zone).length ≡ 0 → (found_of log used zone).at ≡ 0
@@ -82,7 +81,7 @@ none_at_0 log used zone = go (eqb (log_refusal log used) 0) (newest_from (take u
 -- ---- AFTER `keep`
 
 -- what is found in a station's log
-abbrev found_in : Station → ℕ → Found
+abbrev found_in : Station → ℕ → Place
 found_in s zone = found_of s.buffer s.used zone
 
 module _ (s : Station) (m : List ℕ) (h : keep_refusal s.buffer s.used m ≡ 0) where

@@ -6,7 +6,7 @@ use mathlib.Core.Path.{◌≡◌, refl, sym, ap, subst, ◌∙◌}
 use mathlib.Core.Bool.{Bool, true, false, cond, not, ◌||◌, false≢true}
 use mathlib.Core.List.{List, [], ◌∷◌}
 use lib.Dec.{eqb, ltb, leb→le}
-use lib.ListN.{length, take}
+use lib.ListN.{length, take, length-append}
 use borrow.Author.Tests.{eq-eqb, ne_eqb, eqb-true, eqb-false, ltb-false, le-ltb, not-true}
 use Rattle.standard.specs.Words.{byte, first_of}
 use Rattle.standard.specs.Messages.{among, number_of, check_of, message_tests, status_number, is_status}
@@ -112,6 +112,18 @@ module _ (log : List ℕ) (used : ℕ) (m : List ℕ) where
         pub keep_else : is_status m ≡ true
             → keep_refusal log used m ≡ cond (beyond log (used + length (record_of m))) 9 0
         keep_else h = ordered ∙ rw (p, q, eq-eqb (check_of m) 0 r, number ∙ h) refl
+
+        -- as the code counts the record's bytes
+        by_end : is_status m ≡ true → keep_refusal log used m ≡ cond (beyond log (used + length m + 1)) 9 0
+        by_end h =
+            let end : used + length (record_of m) ≡ used + length m + 1 = rw length-append (omega arith) in
+            keep_else h ∙ ap (λ (k : ℕ). cond (beyond log k) 9 0) end
+
+        pub keep_9 : is_status m ≡ true → beyond log (used + length m + 1) ≡ true → keep_refusal log used m ≡ 9
+        keep_9 h e = by_end h ∙ ap (λ (t : Bool). cond t 9 0) e
+
+        pub keep_0 : is_status m ≡ true → beyond log (used + length m + 1) ≡ false → keep_refusal log used m ≡ 0
+        keep_0 h e = by_end h ∙ ap (λ (t : Bool). cond t 9 0) e
 
 -- the numbers of `keep`: of a log that is not refused, and of any
 abbrev pub of_the_kept : ℕ → Bool

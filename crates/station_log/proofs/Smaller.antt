@@ -140,9 +140,8 @@ module _ (log : List ℕ) (used : ℕ) where
   room_16 h = refused (sym (log_16 log used h)) (λ z. omega arith)
 
   module _ (fits : beyond log used ≡ false) where
-    pub room_else : {n : ℕ} → n ≡ cond (sound (take used log)) 0 17 → (n ≡ 0 → ⊥)
-        → MakesRoom log used (record { number = n; length = 0 }) log
-    room_else e h = refused (e ∙ sym (log_else log used fits)) h
+    pub room_17 : sound (take used log) ≡ false → MakesRoom log used (record { number = 17; length = 0 }) log
+    room_17 h = refused (sym (log_else log used fits ∙ rw h refl)) (λ z. omega arith)
 
     module _ (sounds : sound (take used log) ≡ true) where
       messages : (ms : List (List ℕ)) × (records_of (take used log) ≡ some ms)

@@ -65,7 +65,7 @@ module _ (older m : List ℕ) where
 
 -- ---- walking back
 
-no_bytes : (l : List ℕ) → length l ≡ 0 → l ≡ []
+pub no_bytes : (l : List ℕ) → length l ≡ 0 → l ≡ []
 no_bytes [] h = refl
 no_bytes (b ∷ l) h = absurd (omega arith)
 

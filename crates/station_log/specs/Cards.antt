@@ -2,10 +2,9 @@
 -- nothing.
 use Rattle.std.specs.Prelude.{ℕ, length, drop, replicate}
 use mathlib.Core.List.{List, [], ◌∷◌, ◌++◌, flat_map}
-use Rattle.standard.specs.declared.Written.{Written}
-use Rattle.station_log.specs.declared.Found.{Found}
+use Rattle.standard.specs.Refusals.{Written}
 use Rattle.standard.specs.Words.{up_to}
-use Rattle.station_log.specs.Log.{found_of, added_of}
+use Rattle.station_log.specs.Log.{Place, found_of, added_of}
 use Rattle.station_log.specs.Room.{won_of, after_room}
 
 -- a question about a zone, or a message to keep, and what is said
@@ -37,7 +36,7 @@ asked log used zone said = record { log = log; used = used; zone = zone; said = 
 abbrev told : List ℕ → ℕ → List ℕ → ℕ × ℕ → Told
 told log used message said = record { log = log; used = used; message = message; said = said }
 
-abbrev found : Found → ℕ × ℕ × ℕ
+abbrev found : Place → ℕ × ℕ × ℕ
 found f = (f.number, f.at, f.length)
 
 abbrev added : Written → ℕ × ℕ

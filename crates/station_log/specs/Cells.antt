@@ -1,10 +1,11 @@
 -- What the private functions that make room say between them: what later records write is remembered in cells, and the
 -- records that stay by the places of their trailers. Assumes nothing.
-use Rattle.std.specs.Prelude.{ℕ, suc, ◌+◌, ◌-◌, ◌≤◌, ◌<◌, ◌≡◌, Bool, true, false, cond, ◌||◌, List, [], ◌∷◌, ◌++◌, eqb, length, get_or, take, drop, replicate, set}
+use Rattle.std.specs.Prelude.{ℕ, suc, ◌+◌, ◌-◌, ◌≤◌, ◌<◌, Bool, cond, List, [], ◌∷◌, ◌++◌, eqb, length, get_or, take, drop, replicate, set}
+use Rattle.std.specs.List.{list_any}
 use Rattle.std.proofs.Math.Option
 use Rattle.standard.specs.Words.{byte, laid}
 use Rattle.standard.specs.Messages.{number_of}
-use Rattle.station_log.specs.Log.{joined, records_of, sound}
+use Rattle.station_log.specs.Log.{joined, records_of}
 use Rattle.station_log.specs.Room.{needless}
 
 -- ---- cells: 256 zones' own bytes, 256 zones' short flags, eight partitions, all partitions' short bytes, the system
@@ -28,8 +29,7 @@ cells_of m =
 
 -- whether one of some cells is not written yet
 unfoldable pub any_zero : List ℕ → Bool
-any_zero [] = false
-any_zero (c ∷ cs) = eqb c 0 || any_zero cs
+any_zero cells = list_any (λ c. eqb c 0) cells
 
 unfoldable pub is_new : List ℕ → List ℕ → Bool
 is_new cells m = any_zero (take (cells_of m).count (drop (cells_of m).first cells))
@@ -65,10 +65,3 @@ unfoldable pub Apart : List ℕ → ℕ → List ℕ → Type 0
 Apart log low [] = Unit {0}
 Apart log low (last ∷ places) =
     (last < length log) × (low + get_or log last 0 ≤ last) × Apart log (suc last) places
-
--- what `walk` says: whether the bytes are a log, and if so where the places of the records that stay begin
-pub record Walks (log : List ℕ) (number first : ℕ) (places : List ℕ) : Type 0 where
-  pub says : number ≡ cond (sound log) 0 17
-  pub many : length places ≡ cells_most
-  pub within : first ≤ length places
-  pub there : sound log ≡ true → drop first places ≡ places_in log

@@ -1,4 +1,5 @@
 pub mod Log
+pub mod Answers
 pub mod Places
 pub mod Room
 pub mod Cells

@@ -3,10 +3,9 @@
 use Rattle.std.specs.Prelude.{ℕ, zero, suc, ◌+◌, ◌-◌, ◌≡◌, Bool, true, false, cond, not, ◌&&◌, ◌||◌, List, [], ◌∷◌, ◌++◌, eqb, ltb, length, get_or, take, drop}
 use Rattle.std.proofs.Math.Option
 use Rattle.std.proofs.Math.Option.{Option, none, some, map}
-use Rattle.standard.specs.declared.Written.{Written}
+use Rattle.standard.specs.Refusals.{Written}
 use Rattle.standard.specs.Words.{byte, first_of, laid}
 use Rattle.standard.specs.Messages.{number_of, within, message_tests, status_number, is_status}
-use Rattle.station_log.specs.declared.Found.{Found}
 
 -- "a lent buffer of at most 64 KiB"
 abbrev pub log_most : ℕ
@@ -109,8 +108,14 @@ log_tests log used = (beyond log used, 16) ∷ (not (sound (take used log)), 17)
 unfoldable pub log_refusal : List ℕ → ℕ → ℕ
 log_refusal log used = first_of (log_tests log used)
 
+-- what a question about a zone says: a number, and a record's place and length
+pub record Place : Type 0 where
+  pub number : ℕ
+  pub at : ℕ
+  pub length : ℕ
+
 -- where the newest record about a zone stands, and its length; "a refused call's counts and lengths are 0"
-unfoldable pub found_of : List ℕ → ℕ → ℕ → Found
+unfoldable pub found_of : List ℕ → ℕ → ℕ → Place
 found_of log used zone = record {
   number = log_refusal log used;
   at = cond (eqb (log_refusal log used) 0) (newest_place (take used log) zone) 0;

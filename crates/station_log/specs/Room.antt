@@ -2,7 +2,7 @@
 use Rattle.std.specs.Prelude.{ℕ, ◌-◌, ◌≡◌, Bool, true, false, cond, ◌&&◌, ◌||◌, List, [], ◌∷◌, ◌++◌, eqb, length, take}
 use Rattle.std.proofs.Math.Option.{get_or}
 use Rattle.std.specs.Int.Bits.{bit_or}
-use Rattle.standard.specs.declared.Written.{Written}
+use Rattle.standard.specs.Refusals.{Written}
 use Rattle.standard.specs.Words.{byte, laid}
 use Rattle.standard.specs.Messages.{number_of}
 use Rattle.standard.specs.Table.{Write, stores, marks, writes_of}

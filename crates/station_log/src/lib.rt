@@ -3,76 +3,64 @@
 // making room in it.
 #![tactic(auto)]
 
-ghost use Rattle.std.specs.Prelude.{◌≡◌, true, [], ◌+◌, ◌≤◌, ◌<◌, eqb, length, get_or, take, drop, set, replicate};
+ghost use Rattle.std.specs.Prelude.{◌≡◌, true, false, [], ◌+◌, ◌≤◌, ◌<◌, eqb, length, get_or, take, drop, set, replicate, MatchOption, MatchResult};
 ghost use Rattle.standard.specs.Words.{byte, laid};
 ghost use Rattle.standard.specs.Messages.{is_status};
 ghost use Rattle.standard.specs.Questions.{Answered};
+ghost use Rattle.standard.specs.Refusals.{number_in, written_in};
+ghost use Rattle.standard.specs.declared.Refusal.TheVariants.{BeyondLog, LogNotSound};
 ghost use Rattle.station_log.specs.Log.{record_of, sound, about, newest_of, beyond, log_refusal, found_of, keep_refusal, Keeps};
-ghost use Rattle.station_log.specs.Places.{start_of, found_in};
+ghost use Rattle.station_log.specs.Answers.{part_in, none_in, Finds};
+ghost use Rattle.station_log.specs.Places.{Ends, EndsWithNone, found_in};
 ghost use Rattle.station_log.specs.Room.{MakesRoom};
-ghost use Rattle.station_log.specs.Cells.{cells_most, any_zero, is_new, noted, record_at, records_at, Apart, Walks};
+ghost use Rattle.station_log.specs.Cells.{cells_most, any_zero, is_new, noted, places_in, record_at, records_at, Apart};
 
-use standard::Written;
+use standard::Refusal;
 
 // "a lent buffer of at most 64 KiB"
 pub const LOG_MOST: usize = 65536;
 
-// The answer to a question about a zone: 0 and where the newest record about it stands, of length 0
-// where there is none; or the refusal's number.
+// Where a record stands in a log, its trailer with it.
 #[derive(Clone, Copy)]
 pub struct Found {
-    pub number: u8,
     pub at: usize,
     pub length: usize,
 }
 
-// No record, and why.
-fn no_record(number: u8) -> Found
-    ensures { result ≡ record { number = number; at = 0; length = 0 } }
-{
-    Found {
-        number,
-        at: 0,
-        length: 0,
-    }
-}
-
 // ---- reading back
 
-// Where the record at the end of a log begins; where no record stands there, the end.
-fn record_start(log: &[u8]) -> usize
-    requires { 1 ≤ length log.now }
-    ensures { result ≡ start_of log.now }
+// The record at the end of a log: the bytes before it, and its message.
+fn last_record(log: &[u8]) -> Option<(&[u8], &[u8])>
+    ensures { MatchOption result (EndsWithNone log.now) (λ p. Ends log.now p.0.now p.1.now) }
 {
-    let end = log.len();
-    let last = end - 1;
-    let length = log[last] as usize;
-    if last < length {
-        return end;
-    }
-    let start = last - length;
-    if messages::is_status(&log[start..last]) {
-        start
+    let (&trailer, before) = log.split_last()?;
+    let start = before.len().checked_sub(trailer as usize)?;
+    let (older, message) = before.split_at(start);
+    if messages::is_status(message) {
+        Some((older, message))
     } else {
-        end
+        None
     }
 }
 
-fn is_sound(log: &[u8]) -> bool
-    ensures { result ≡ sound log.now }
+// The walk back has to come to the beginning.
+#[tactic(auto, using(crate::proofs::Backwards::sound_back, crate::proofs::Backwards::sound_at_end))]
+fn check_sound(log: &[u8]) -> Result<(), Refusal>
+    ensures { MatchResult result (λ done. sound log.now ≡ true) (λ refusal. (sound log.now ≡ false) × (refusal ≡ LogNotSound)) }
 {
-    let mut end = log.len();
-    while 0 < end {
-        let start = record_start(&log[..end]);
-        if start == end {
-            return false;
-        }
-        end = start;
+    let mut left = log;
+    while let Some((older, _)) = last_record(left) {
+        left = older;
     }
-    true
+    if left.is_empty() {
+        Ok(())
+    } else {
+        Err(Refusal::LogNotSound)
+    }
 }
 
 // "04h of that zone, or 05h covering it"
+#[tactic(auto, unfolding(crate::specs::Log::about))]
 fn is_about(zone: u8, message: &[u8]) -> bool
     requires { 2 ≤ length message.now }
     ensures { result ≡ about zone message.now }
@@ -87,29 +75,23 @@ fn is_about(zone: u8, message: &[u8]) -> bool
 
 // The newest record about a zone, of bytes that are all used. What is older than the record that was
 // found is walked through as well: the log may yet not be sound.
-fn newest_in(log: &[u8], zone: u8) -> Found
-    ensures { result ≡ found_in log.now zone }
+#[tactic(auto, using(standard::proofs::Status::status_length_lem, crate::proofs::Finding::found_other))]
+fn newest_in(log: &[u8], zone: u8) -> Result<Option<Found>, Refusal>
+    ensures { Finds (found_in log.now zone) result }
 {
-    let mut end = log.len();
-    while 0 < end {
-        let start = record_start(&log[..end]);
-        if start == end {
-            return no_record(17);
+    let mut rest = log;
+    while let Some((older, message)) = last_record(rest) {
+        if is_about(zone, message) {
+            check_sound(older)?;
+            return Ok(Some(Found {
+                at: older.len(),
+                length: rest.len() - older.len(),
+            }));
         }
-        let last = end - 1;
-        if is_about(zone, &log[start..last]) {
-            if is_sound(&log[..start]) {
-                return Found {
-                    number: 0,
-                    at: start,
-                    length: end - start,
-                };
-            }
-            return no_record(17);
-        }
-        end = start;
+        rest = older;
     }
-    no_record(0)
+    check_sound(rest)?;
+    Ok(None)
 }
 
 // ---- the calls
@@ -121,46 +103,50 @@ fn is_beyond(log: &[u8], end: usize) -> bool
     log.len() < end || LOG_MOST < end
 }
 
-// Where the newest record about a zone stands.
-pub fn find(log: &[u8], used: usize, zone: u8) -> Found
-    ensures { result ≡ found_of log.now used zone }
+// The bytes of a buffer that are used.
+fn used_part(log: &[u8], used: usize) -> Result<&[u8], Refusal>
+    ensures { MatchResult result (λ part. (beyond log.now used ≡ false) × (part.now ≡ take used log.now)) (λ refusal. (beyond log.now used ≡ true) × (refusal ≡ BeyondLog)) }
 {
     if is_beyond(log, used) {
-        return no_record(16);
+        Err(Refusal::BeyondLog)
+    } else {
+        Ok(&log[..used])
     }
-    newest_in(&log[..used], zone)
 }
 
-// The newest record about a zone, "handed out as that part of the log itself"; an empty part is none.
-pub fn newest<'a>(log: &'a [u8], used: usize, zone: u8, number: &mut u8) -> &'a [u8]
-    ensures { Answered [] (log_refusal log.now used) (newest_of (take used log.now) zone) number.new result.now }
+// Where the newest record about a zone stands; None where the log has none.
+pub fn find(log: &[u8], used: usize, zone: u8) -> Result<Option<Found>, Refusal>
+    ensures { Finds (found_of log.now used zone) result }
 {
-    let found = find(log, used, zone);
-    *number = found.number;
-    let at = found.at;
-    let end = at + found.length;
-    &log[at..end]
+    newest_in(used_part(log, used)?, zone)
 }
 
-// 0, or what refuses a message: 16, 17, 4, 6, 7, 8, 18, 9.
-fn keep_refusal(log: &[u8], used: usize, message: &[u8]) -> u8
-    ensures { result ≡ keep_refusal log.now used message.now }
+// The newest record about a zone, "handed out as that part of the log itself".
+pub fn newest<'a>(log: &'a [u8], used: usize, zone: u8) -> Result<Option<&'a [u8]>, Refusal>
+    ensures part { Answered [] (log_refusal log.now used) (newest_of (take used log.now) zone) (number_in result) (part_in result) }
+    ensures none { none_in result ≡ eqb (found_of log.now used zone).length 0 }
 {
-    if is_beyond(log, used) {
-        return 16;
-    }
-    if !is_sound(&log[..used]) {
-        return 17;
-    }
-    let own = messages::check(message);
-    if own != 0 {
-        return own;
-    }
+    let Some(Found { at, length }) = find(log, used, zone)? else {
+        return Ok(None);
+    };
+    Ok(Some(&log[at..at + length]))
+}
+
+// What refuses a message: 16, 17, 4, 6, 7, 8, 18, 9.
+fn check_keep(log: &[u8], used: usize, message: &[u8]) -> Result<(), Refusal>
+    ensures { number_in result ≡ keep_refusal log.now used message.now }
+{
+    check_sound(used_part(log, used)?)?;
+    messages::check(message)?;
     if !messages::is_status(message) {
-        return 18;
+        return Err(Refusal::NotKept);
     }
     let end = used + message.len() + 1;
-    if is_beyond(log, end) { 9 } else { 0 }
+    if is_beyond(log, end) {
+        Err(Refusal::NoRoom)
+    } else {
+        Ok(())
+    }
 }
 
 // The record, at a place.
@@ -168,41 +154,35 @@ fn put(log: &mut [u8], place: usize, message: &[u8])
     requires { (length message.now ≤ 255) × (place + length message.now < length log.old) }
     ensures { log.new ≡ laid log.old place (record_of message.now) }
 {
-    let n = message.len();
-    let last = place + n;
-    log[place..place + message.len()].copy_from_slice(message);
-    log[last] = n as u8;
+    let last = place + message.len();
+    log[place..last].copy_from_slice(message);
+    log[last] = message.len() as u8;
 }
 
 // Keeps a message. The length that is said is that of the record, to be added to the used one.
-pub fn keep(log: &mut [u8], used: usize, message: &[u8]) -> Written
-    ensures { Keeps log.old used message.now result log.new }
+pub fn keep(log: &mut [u8], used: usize, message: &[u8]) -> Result<usize, Refusal>
+    ensures { Keeps log.old used message.now (written_in result) log.new }
 {
-    let number = keep_refusal(log, used, message);
-    if number != 0 {
-        return Written { number, length: 0 };
-    }
+    check_keep(log, used, message)?;
     put(log, used, message);
-    Written {
-        number: 0,
-        length: message.len() + 1,
-    }
+    Ok(message.len() + 1)
 }
 
 // ---- making room
 
 // What later records write is remembered in cells: of a record that stays, one at least was not
-// written yet. A cell for each zone's own bytes, for each zone's short flags, for each partition, for
-// all partitions' short bytes, and for the system. So no more records stay than there are cells.
+// written yet. So no more records stay than there are cells.
 const CELLS: usize = 522;
 
-// What a walk back through a log has decided: 0 and where the places of the records that stay begin,
-// or 17.
-#[derive(Clone, Copy)]
-struct Walked {
-    number: u8,
-    first: usize,
-}
+// Where the cells of each kind begin: one for each zone's own bytes, from the first cell on, for each
+// zone's short flags, for each partition, for all partitions' short bytes, and for the system.
+const SHORT_FLAGS: usize = 256;
+
+const PARTITIONS: usize = 512;
+
+const SHORT_BYTES: usize = 520;
+
+const SYSTEM: usize = 521;
 
 // Writes a cell, and says whether it was not written yet.
 fn mark(cells: &mut [u8], cell: usize) -> bool
@@ -216,20 +196,13 @@ fn mark(cells: &mut [u8], cell: usize) -> bool
 }
 
 // Writes some cells, and says whether one of them was not written yet.
+#[tactic(auto, unfolding(crate::specs::Cells::any_zero))]
 fn fill(cells: &mut [u8]) -> bool
     ensures value { result ≡ any_zero cells.old }
     ensures cells_after { cells.new ≡ replicate (length cells.old) 1 }
 {
-    let n = cells.len();
-    let mut is_new = false;
-    let mut i: usize = 0;
-    while i < n {
-        if cells[i] == 0 {
-            is_new = true;
-        }
-        cells[i] = 1;
-        i += 1;
-    }
+    let is_new = cells.contains(&0);
+    cells.fill(1);
     is_new
 }
 
@@ -245,43 +218,37 @@ fn note(cells: &mut [u8], message: &[u8]) -> bool
     match message[0] % 64 {
         0x04 => {
             let is_new = mark(cells, on);
-            cells[256 + on] = 1;
+            cells[SHORT_FLAGS + on] = 1;
             is_new
         }
         0x05 => {
-            let first = 256 + on;
-            let end = first + 16;
-            fill(&mut cells[first..end])
+            let first = SHORT_FLAGS + on;
+            fill(&mut cells[first..first + 16])
         }
-        0x06 => mark(cells, 512 + on),
-        0x07 => mark(cells, 520),
-        _ => mark(cells, 521),
+        0x06 => mark(cells, PARTITIONS + on),
+        0x07 => mark(cells, SHORT_BYTES),
+        _ => mark(cells, SYSTEM),
     }
 }
 
-// Walks back through a log, and puts the places of the trailers of those records that stay at the
-// end of `places`, the newest last.
-fn walk(log: &[u8], cells: &mut [u8], places: &mut [u16]) -> Walked
-    requires log_len_bound { length log.now ≤ 65536 }
-    requires cells_value { cells.old ≡ replicate cells_most 0 }
-    requires places_len { length places.old ≡ cells_most }
-    ensures { Walks log.now result.number result.first places.new }
+// Walks back through a log, and hands out the places of the trailers of those records that stay, the
+// newest last: the end of `places`.
+fn walk<'a>(log: &[u8], places: &'a mut [u16; CELLS]) -> Result<&'a [u16], Refusal>
+    requires { length log.now ≤ 65536 }
+    ensures { MatchResult result (λ stay. (sound log.now ≡ true) × (stay.now ≡ places_in log.now)) (λ refusal. (sound log.now ≡ false) × (refusal ≡ LogNotSound)) }
 {
-    let mut end = log.len();
-    let mut first = places.len();
-    while 0 < end {
-        let start = record_start(&log[..end]);
-        if start == end {
-            return Walked { number: 17, first };
-        }
-        let last = end - 1;
-        if note(cells, &log[start..last]) {
+    let mut cells = [0; CELLS];
+    let mut first = CELLS;
+    let mut rest = log;
+    while let Some((older, message)) = last_record(rest) {
+        if note(&mut cells, message) {
             first -= 1;
-            places[first] = last as u16;
+            places[first] = (rest.len() - 1) as u16;
         }
-        end = start;
+        rest = older;
     }
-    Walked { number: 0, first }
+    check_sound(rest)?;
+    Ok(&places[first..])
 }
 
 // Moves the record whose trailer stands at a place down to another, and says where it ends there.
@@ -290,14 +257,9 @@ fn move_record(log: &mut [u8], to: usize, last: usize) -> usize
     ensures value { result ≡ to + (get_or log.old last 0 + 1) }
     ensures log_after { log.new ≡ laid log.old to (record_at log.old last) }
 {
-    let n = log[last] as usize + 1;
-    let from = last + 1 - n;
-    let mut moved: usize = 0;
-    while moved < n {
-        log[to + moved] = log[from + moved];
-        moved += 1;
-    }
-    to + n
+    let length = log[last] as usize;
+    log.copy_within(last - length..last + 1, to);
+    to + (length + 1)
 }
 
 // Moves the records at some places to the beginning, in their order, and says how many bytes they are.
@@ -306,40 +268,20 @@ fn close_up(log: &mut [u8], places: &[u16]) -> usize
     ensures value { result ≡ length (records_at log.old places.now) }
     ensures log_after { log.new ≡ laid log.old 0 (records_at log.old places.now) }
 {
-    let n = places.len();
-    let mut to: usize = 0;
-    let mut i: usize = 0;
-    while i < n {
-        to = move_record(log, to, places[i] as usize);
-        i += 1;
+    let mut to = 0;
+    for &last in places {
+        to = move_record(log, to, last as usize);
     }
     to
 }
 
 // Makes a log smaller where it stands. The length that is said is what was won, to be taken from the
 // used one. Nothing moves before the walk has come to the beginning.
-pub fn make_room(log: &mut [u8], used: usize) -> Written
-    ensures { MakesRoom log.old used result log.new }
+pub fn make_room(log: &mut [u8], used: usize) -> Result<usize, Refusal>
+    ensures { MakesRoom log.old used (written_in result) log.new }
 {
-    if is_beyond(log, used) {
-        return Written {
-            number: 16,
-            length: 0,
-        };
-    }
-    let mut cells = [0u8; CELLS];
-    let mut places = [0u16; CELLS];
-    let walked = walk(&log[..used], &mut cells, &mut places);
-    if walked.number != 0 {
-        return Written {
-            number: walked.number,
-            length: 0,
-        };
-    }
-    let first = walked.first;
-    let left = close_up(log, &places[first..]);
-    Written {
-        number: 0,
-        length: used - left,
-    }
+    let mut places = [0; CELLS];
+    let stay = walk(used_part(log, used)?, &mut places)?;
+    let left = close_up(log, stay);
+    Ok(used - left)
 }

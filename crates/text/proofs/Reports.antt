@@ -1,22 +1,22 @@
 -- The report from its parts: the lines of the verdicts, and those of the groups after them. Assumes nothing.
-use Prim.Native.Nat.{ℕ, ◌+◌, ◌≤◌, ◌<◌}
+use Prim.Native.Nat.{ℕ, ◌≤◌, ◌<◌, min}
 use native.Mathlib.Omega.{arith}
-use mathlib.Core.Path.{◌≡◌, refl, ap, ◌∙◌}
+use mathlib.Core.Path.{◌≡◌, ap, ◌∙◌}
 use mathlib.Core.List.{List, ◌++◌, flat_map}
-use lib.ListN.{length, take, drop, length-append}
-use lib.Seq.{take_all, take-take, take_at}
+use lib.ListN.{length, take}
+use lib.Seq.{take_all, take-take}
+use Rattle.std.proofs.lemmas.List.{take_min}
 use borrow.Author.Tests.{lt-ltb, le-ltb}
 use Rattle.standard.specs.declared.Framing.TheVariants.{Binary}
 use Rattle.standard.specs.declared.Escapes.TheVariants.{Lenient}
-use Rattle.standard.specs.declared.Written.{Written}
-use Rattle.standard.specs.Words.{Put}
 use Rattle.standard.specs.Stream.{handed_of}
 use Rattle.standard.specs.Table.{fresh, table_after}
 use Rattle.standard.specs.Overview.{group_numbers}
 use Rattle.standard.specs.Report.{most_read, longest_report, group_line, report_on, report_of, Reported}
-use Rattle.standard.proofs.Put.{put_then, put_laid}
 use Rattle.standard.proofs.Report.{room}
-use Rattle.text.specs.Lines.{Counting}
+use Rattle.puts.specs.declared.Out.{Out}
+use Rattle.puts.specs.Out.{Puts}
+use Rattle.puts.proofs.Puts.{puts_then, puts_laid}
 use Rattle.text.proofs.Turns.{lines_of}
 
 -- ---- a capture of which all the bytes count
@@ -33,20 +33,15 @@ module _ (capture : List ℕ) (h : length capture ≤ most_read) where
     unfolding report_on
     report_parts = rw e whole_report
 
-    -- both parts fit where the longest report does
-    pub parts_fit : length (lines_of capture) + length groups ≤ longest_report
-    parts_fit = omega (arith, room capture, ap length report_parts, length-append (lines_of capture) groups)
-
-    pub report_put : {out out₁ out₂ : List ℕ} {place end : ℕ} → Put out 0 (lines_of capture) out₁ place
-        → Put out₁ place groups out₂ end → Put out 0 (report_of capture) out₂ end
-    report_put first second = rw report_parts (put_then first second)
+    pub report_put : {o o' o'' : Out} → Puts o (lines_of capture) o' → Puts o' groups o'' → Puts o (report_of capture) o''
+    report_put first second = rw report_parts (puts_then first second)
 
 -- ---- any capture
 
 -- the bytes beyond those that count change nothing
-pub first_count : (capture : List ℕ) (n : ℕ) → Counting capture n → report_of (take n capture) ≡ report_of capture
-first_count capture n c =
-    ap (λ l. report_on (handed_of Lenient Binary (take most_read l))) c.counted
+pub first_count : (capture : List ℕ) → report_of (take (min most_read (length capture)) capture) ≡ report_of capture
+first_count capture =
+    ap (λ l. report_on (handed_of Lenient Binary (take most_read l))) (take_min most_read capture)
     ∙ ap (λ l. report_on (handed_of Lenient Binary l)) (take-take most_read most_read capture (omega arith))
 
 -- a buffer that is too short is refused
@@ -55,25 +50,13 @@ pub refused : (capture out : List ℕ) → length out < longest_report
 refused capture out h = let e = lt-ltb (length out) longest_report h in record { says = rw e; leaves = rw e }
 
 -- and in any other the report is laid
-pub answered : (capture out out' : List ℕ) (end : ℕ) → longest_report ≤ length out
-    → Put out 0 (report_of capture) out' end → Reported capture out (record { number = 0; length = end }) out'
-answered capture out out' end h put =
+pub answered : (capture out out' : List ℕ) (end : ℕ) → longest_report ≤ length out → (o o' : Out) → o.buffer.now ≡ out
+    → o.place ≡ 0
+    → Puts o (report_of capture) o'
+    → out' ≡ o'.buffer.now
+    → end ≡ o'.place
+    → Reported capture out (record { number = 0; length = end }) out'
+answered capture out out' end h o o' whole first puts is ends =
     let e = le-ltb (length out) longest_report h in
-    let n = length (report_of capture) in
-    let fits : 0 + n ≤ length out = omega (arith, room capture) in
-    let ends : end ≡ n = omega (arith, put.end) in
-    record { says = rw e (ap (λ (k : ℕ). record { number = 0; length = k }) ends); leaves = rw e (put_laid put fits) }
-
--- so that it is the beginning of the buffer
-pub told : (capture out : List ℕ) (answer : Written) (out' : List ℕ) → Reported capture out answer out'
-    → longest_report ≤ length out → (answer.length ≤ length out') × (take answer.length out' ≡ report_of capture)
-told capture out answer out' r h =
-    let report = report_of capture in
-    let n = length report in
-    let e = le-ltb (length out) longest_report h in
-    let says : answer ≡ record { number = 0; length = n } = rw e at r.says in
-    let leaves : out' ≡ report ++ drop (0 + n) out = rw e at r.leaves in
-    let size = ap length leaves ∙ length-append report (drop (0 + n) out) in
-    let long = ap (λ (w : Written). w.length) says in
-    let front = ap (take n) leaves ∙ take_at report (drop (0 + n) out) n refl in
-    (omega (arith, long, size), ap (λ (w : Written). take w.length out') says ∙ front)
+    let laid = puts_laid whole first puts is ends (omega (arith, room capture)) in
+    record { says = rw e (ap (λ (k : ℕ). record { number = 0; length = k }) laid.0); leaves = rw e laid.1 }

@@ -5,13 +5,13 @@ use native.Mathlib.Omega.{arith}
 use mathlib.Core.Path.{◌≡◌, refl, sym, ap, ap₂, ◌∙◌}
 use mathlib.Core.List.{List, [], ◌∷◌, ◌++◌, map, flat_map, append-nil, append_cancel_left}
 use mathlib.Core.List.{cons≢nil, nil≢cons, head-eq_of_cons-eq}
-use lib.ListN.{length, take, drop, length-append, length-drop, take-append-drop}
+use lib.ListN.{length, take, drop, length-drop}
 use lib.Seq.{take_all, take-add}
 use Rattle.standard.specs.declared.Framing.TheVariants.{Binary}
 use Rattle.standard.specs.declared.Escapes.TheVariants.{Lenient}
 use Rattle.standard.specs.declared.Verdict.{Verdict}
-use Rattle.standard.specs.declared.Said.{Said}
-use Rattle.standard.specs.declared.Said.TheVariants.{Silent, Gave}
+use Rattle.std.specs.Prelude.{Option}
+use Rattle.std.specs.Prelude.{Some, None}
 use Rattle.standard.specs.declared.Reply.{Reply}
 use Rattle.standard.specs.Judge.{Handed, verdict_for, verdicts_in}
 use Rattle.standard.specs.Stream.{handed_of}
@@ -21,11 +21,10 @@ use Rattle.standard.specs.Report.{line_with, verdict_line}
 use Rattle.standard.proofs.Words.{flat_map_append}
 use Rattle.standard.proofs.Stored.{after_append}
 use Rattle.reader.specs.declared.Reader.{Reader}
-use Rattle.reader.specs.Read.{fresh_reader, state_of, read_of}
+use Rattle.reader.specs.Read.{fresh_reader, read_of}
 use Rattle.reader.specs.Calls.{Reached, fresh, read, Uses}
-use Rattle.reader.proofs.Stream.Parts.{run}
 use Rattle.reader.proofs.State.Arrays.{Whole}
-use Rattle.reader.proofs.Stream.Used.{met, met_rule, used_rule}
+use Rattle.reader.proofs.Stream.Used.{met, used_rule}
 use Rattle.host.specs.Hear.{reply_to, heard_by, Hears}
 use Rattle.host.proofs.Answers.{heard_read}
 use Rattle.host.proofs.Demand3.{after_length}
@@ -50,17 +49,12 @@ pub heard_none : (capture t₀ : List ℕ) → HeardTo capture t₀ 0 (fresh_rea
 unfolding table_after
 heard_none capture t₀ = record { within = zero-le; reached = fresh; table = refl }
 
--- the reader's array is whole
-pub array_whole : (capture t₀ : List ℕ) (i : ℕ) {r : Reader} {t : List ℕ} → HeardTo capture t₀ i r t → Whole r
-array_whole capture t₀ i to = (met to.reached).whole
-
 -- what a call adds that said this, with this reply
-pub record Turn (capture t₀ : List ℕ) (i : ℕ) (said : Said) (reply used : ℕ) (next : Reader) (after : List ℕ)
+pub record Turn (capture t₀ : List ℕ) (i : ℕ) (said : Option Verdict) (reply used : ℕ) (next : Reader) (after : List ℕ)
     : Type 0 where
   pub on : HeardTo capture t₀ (i + used) next after
   pub moves : 0 < used
   pub lines : lines_of (take (i + used) capture) ≡ lines_of (take i capture) ++ said_lines said reply
-  pub room : length (lines_of (take i capture)) + length (said_lines said reply) ≤ length (lines_of capture)
 
 -- ---- one call
 
@@ -75,35 +69,21 @@ moves_by stream bs zero said w h =
     absurd (omega (arith, w.or_all (sym (append_cancel_left before [] said same))))
 
 -- the line of at most one verdict
-said_lines_lem : (said : Said) (hs : List Handed) (reply : ℕ) → verdicts_in said ≡ map verdict_for hs → reply ≡ reply_to hs
+said_lines_lem : (said : Option Verdict) (hs : List Handed) (reply : ℕ) → verdicts_in said ≡ map verdict_for hs → reply ≡ reply_to hs
     → said_lines said reply ≡ flat_map verdict_line hs
 unfolding flat_map
-said_lines_lem Silent [] reply e r = refl
-said_lines_lem Silent (h ∷ hs) reply e r = absurd (nil≢cons e)
-said_lines_lem (Gave v) [] reply e r = absurd (cons≢nil e)
-said_lines_lem (Gave v) (h ∷ []) reply e r =
+said_lines_lem None [] reply e r = refl
+said_lines_lem None (h ∷ hs) reply e r = absurd (nil≢cons e)
+said_lines_lem (Some v) [] reply e r = absurd (cons≢nil e)
+said_lines_lem (Some v) (h ∷ []) reply e r =
     ap₂ (λ (w : Verdict) (n : ℕ). line_with (handed_with w) n) (head-eq_of_cons-eq e) r ∙ sym (append-nil (verdict_line h))
-said_lines_lem (Gave v) (h ∷ g ∷ hs) reply e r = absurd (let n = ap length e in omega arith)
+said_lines_lem (Some v) (h ∷ g ∷ hs) reply e r = absurd (let n = ap length e in omega arith)
 
 rest_is : (capture : List ℕ) (i : ℕ) → rest_of capture i ≡ drop i capture
 rest_is capture i = take_all (length capture - i) (drop i capture) (rw length-drop (omega arith))
 
--- the lines of what is heard are the beginning of those of the whole
-lines_within : (capture t₀ : List ℕ) (i : ℕ) {r : Reader} {t : List ℕ} → HeardTo capture t₀ i r t
-    → length (lines_of (take i capture)) ≤ length (lines_of capture)
-lines_within capture t₀ i {r} to =
-    let first = handed_of Lenient Binary (take i capture) in
-    let later = run Lenient (state_of r) (drop i capture) in
-    let whole : handed_of Lenient Binary capture ≡ first ++ later =
-    ap (handed_of Lenient Binary) (sym (take-append-drop i capture))
-    ∙ rw (met_rule to.reached) at ((met to.reached).goes_on (drop i capture))
-    in
-    let a = ap (λ l. length (flat_map verdict_line l)) whole in
-    let b = ap length (flat_map_append verdict_line first later) in
-    omega (arith, length-append (flat_map verdict_line first) (flat_map verdict_line later))
-
 -- the same call as a read of the bytes that are left
-module _ (capture t₀ : List ℕ) (i : ℕ) (r : Reader) (t : List ℕ) (to : HeardTo capture t₀ i r t) where
+module _ {capture t₀ : List ℕ} {i : ℕ} {r : Reader} {t : List ℕ} (to : HeardTo capture t₀ i r t) where
   abbrev first : List Handed
   first = handed_of Lenient Binary (take i capture)
 
@@ -125,7 +105,7 @@ module _ (capture t₀ : List ℕ) (i : ℕ) (r : Reader) (t : List ℕ) (to : H
       }
 
   pub turn : length t₀ ≡ table_bytes → i < length capture
-      → {next : Reader} {used : ℕ} {said : Said} {reply : Reply} {after : List ℕ}
+      → {next : Reader} {used : ℕ} {said : Option Verdict} {reply : Reply} {after : List ℕ}
       → Hears r t (rest_of capture i) next used said reply after
       → Turn capture t₀ i said (reply_number reply) used next after
   unfolding Whole
@@ -146,10 +126,8 @@ module _ (capture t₀ : List ℕ) (i : ℕ) (r : Reader) (t : List ℕ) (to : H
       ∙ ap (λ l. flat_map verdict_line first ++ l) (sym line))
       in
       let some = moves_by (take i capture) bs (read_of r bs).used hs (used_rule to.reached bs) in
-      let sum = length-append (lines_of (take i capture)) (said_lines said (reply_number reply)) in
       record {
         on = on;
         moves = rw uses (some (omega (arith, length-drop i capture)));
         lines = lines;
-        room = omega (arith, lines_within capture t₀ (i + used) on, ap length lines, sum);
       }

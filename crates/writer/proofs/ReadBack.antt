@@ -12,7 +12,7 @@ use borrow.Author.Tests.{eqb-true, eqb-false}
 use Rattle.standard.specs.declared.Framing.{Framing}
 use Rattle.standard.specs.declared.Escapes.{Escapes}
 use Rattle.standard.specs.declared.Escapes.TheVariants.{Strict}
-use Rattle.standard.specs.declared.Written.{Written}
+use Rattle.standard.specs.Refusals.{Written}
 use Rattle.standard.specs.Words.{laid}
 use Rattle.standard.specs.Messages.{check_of}
 use Rattle.standard.specs.Framing.{start_of, frame_of, escapes_needed}

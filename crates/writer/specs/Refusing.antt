@@ -1,6 +1,6 @@
 -- What the writer's private parts answer. Assumes nothing.
 use Rattle.std.specs.Prelude.{ℕ, [], ◌∷◌}
-use Rattle.standard.specs.declared.Written.{Written}
+use Rattle.standard.specs.Refusals.{Written}
 use Rattle.standard.specs.Words.{first_of}
 use Rattle.standard.specs.Writer.{no_room}
 

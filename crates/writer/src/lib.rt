@@ -3,16 +3,16 @@
 // straight into that part, in one pass over the message.
 #![tactic(auto)]
 
-ghost use Rattle.std.specs.Prelude.{◌≡◌, [], ◌∷◌, ◌+◌, ◌≤◌, length};
+ghost use Rattle.std.specs.Prelude.{◌≡◌, [], ◌∷◌, ◌+◌, ◌<◌, ◌≤◌, length};
 ghost use Rattle.standard.specs.Words.{Put};
-ghost use Rattle.standard.specs.Sums.{sums_of};
-ghost use Rattle.standard.specs.Messages.{longest_known, check_of};
+ghost use Rattle.standard.specs.Messages.{check_of};
 ghost use Rattle.standard.specs.declared.Framing.TheVariants.{Binary};
-ghost use Rattle.standard.specs.Framing.{stop_of, stuffed, two_digits, coded, coding, frame_of};
+ghost use Rattle.standard.specs.Framing.{stop_of, stuffed, coded, frame_of};
 ghost use Rattle.standard.specs.Writer.{Wrote};
-ghost use Rattle.writer.specs.Refusing.{refusing, room_refusal};
+ghost use Rattle.standard.specs.Refusals.{number_in, written_in};
+ghost use Rattle.writer.specs.Refusing.{room_refusal};
 
-use standard::{Framing, Sums, Written};
+use standard::{Framing, Refusal};
 
 // "An ASCII frame at most 44": the longest frame that is written.
 const LONGEST_FRAME: usize = 2 * standard::LONGEST_KNOWN + 8;
@@ -22,64 +22,23 @@ fn stuffed_length(b: u8) -> usize
     ensures value { result ≡ length (stuffed b) }
     ensures upper_bound { result ≤ 2 }
 {
-    if b == 0x7E {
-        return 2;
+    match b {
+        0x7E | 0x7D => 2,
+        _ => 1,
     }
-    if b == 0x7D {
-        return 2;
-    }
-    1
 }
 
-// A binary frame's length, in one pass: the sums may need an escape too.
-fn binary_length(message: &[u8]) -> usize
-    requires { length message.now ≤ longest_known }
-    ensures { result ≡ length (frame_of Binary message.now) }
+// Each `put` function stores from a place on and says the place after what it stored.
+fn put_one(frame: &mut [u8], place: usize, b: u8) -> usize
+    requires { place < length frame.old }
+    ensures { Put frame.old place (b ∷ []) frame.new result }
 {
-    let n = message.len() as u8;
-    let mut one = sums::add(0, n);
-    let mut two = sums::add(0, one);
-    let mut size = stuffed_length(n);
-    let mut i = 0;
-    while i < message.len() {
-        let b = message[i];
-        one = sums::add(one, b);
-        two = sums::add(two, one);
-        size += stuffed_length(b);
-        i += 1;
-    }
-    1 + size + stuffed_length(one) + stuffed_length(two)
+    frame[place] = b;
+    place + 1
 }
 
-// How long the frame of a message is.
-fn frame_length(message: &[u8], framing: Framing) -> usize
-    requires { length message.now ≤ longest_known }
-    ensures { result ≡ length (frame_of framing message.now) }
-{
-    match framing {
-        Framing::Binary => binary_length(message),
-        Framing::Ascii => 2 * message.len() + 8,
-    }
-}
-
-// What is refused of a message that passed: 9. Where the longest frame would fit, the message's own
-// need not be measured.
-fn refusal(message: &[u8], framing: Framing, place: usize, size: usize) -> u8
-    requires { check_of message.now ≡ 0 }
-    ensures { result ≡ room_refusal (length (frame_of framing message.now)) place size }
-{
-    if size < place {
-        return 9;
-    }
-    if size - place < LONGEST_FRAME {
-        if size - place < frame_length(message, framing) {
-            return 9;
-        }
-    }
-    0
-}
-
-// Each `put_` function stores from a place on and says the place after what it stored.
+// Two bytes and not an array of them, for speed: with one function for arrays of any length an ASCII
+// frame took an eighth longer.
 fn put_two(frame: &mut [u8], place: usize, first: u8, second: u8) -> usize
     requires { place + 2 ≤ length frame.old }
     ensures { Put frame.old place (first ∷ second ∷ []) frame.new result }
@@ -89,70 +48,21 @@ fn put_two(frame: &mut [u8], place: usize, first: u8, second: u8) -> usize
     place + 2
 }
 
-// "7Eh and 7Dh are sent as 7D 5E and 7D 5D."
-fn put_stuffed(frame: &mut [u8], place: usize, b: u8) -> usize
-    requires { place + length (stuffed b) ≤ length frame.old }
-    ensures { Put frame.old place (stuffed b) frame.new result }
-{
-    if b == 0x7E {
-        return put_two(frame, place, 0x7D, 0x5E);
-    }
-    if b == 0x7D {
-        return put_two(frame, place, 0x7D, 0x5D);
-    }
-    frame[place] = b;
-    place + 1
-}
-
-// "Every byte as two characters, high digit first."
-fn put_digits(frame: &mut [u8], place: usize, b: u8) -> usize
-    requires { place + length (two_digits b) ≤ length frame.old }
-    ensures { Put frame.old place (two_digits b) frame.new result }
-{
-    let digits = standard::two_digits(b);
-    put_two(frame, place, digits[0], digits[1])
-}
-
-// A byte as its framing has it on the line.
+// A byte as its framing has it on the line: "7Eh and 7Dh are sent as 7D 5E and 7D 5D"; "every byte
+// as two characters, high digit first". For speed it is stored where it is told apart: with its one
+// byte or two handed out first, a binary frame took a fifth longer.
 fn put_coded(frame: &mut [u8], place: usize, b: u8, framing: Framing) -> usize
     requires { place + length (coded framing b) ≤ length frame.old }
     ensures { Put frame.old place (coded framing b) frame.new result }
 {
-    match framing {
-        Framing::Binary => put_stuffed(frame, place, b),
-        Framing::Ascii => put_digits(frame, place, b),
-    }
-}
-
-// Where the coded bytes of a message end, and its sums.
-#[derive(Clone, Copy)]
-struct Coded {
-    next: usize,
-    sums: Sums,
-}
-
-// The bytes of a message so, one after another, and the sums: "over the length byte and all message
-// bytes", each before it is coded.
-fn put_summed(frame: &mut [u8], place: usize, message: &[u8], framing: Framing) -> Coded
-    requires message_len_bound { length message.now ≤ longest_known }
-    requires message_in_bounds { place + length (coding framing message.now) ≤ length frame.old }
-    ensures sums_value { result.sums ≡ sums_of (length message.now ∷ message.now) }
-    ensures put { Put frame.old place (coding framing message.now) frame.new result.next }
-{
-    let mut one = sums::add(0, message.len() as u8);
-    let mut two = sums::add(0, one);
-    let mut next = place;
-    let mut i = 0;
-    while i < message.len() {
-        let b = message[i];
-        next = put_coded(frame, next, b, framing);
-        one = sums::add(one, b);
-        two = sums::add(two, one);
-        i += 1;
-    }
-    Coded {
-        next,
-        sums: Sums { one, two },
+    match (framing, b) {
+        (Framing::Binary, 0x7E) => put_two(frame, place, 0x7D, 0x5E),
+        (Framing::Binary, 0x7D) => put_two(frame, place, 0x7D, 0x5D),
+        (Framing::Binary, _) => put_one(frame, place, b),
+        (Framing::Ascii, _) => {
+            let [high, low] = standard::two_digits(b);
+            put_two(frame, place, high, low)
+        }
     }
 }
 
@@ -163,49 +73,92 @@ fn put_stop(frame: &mut [u8], place: usize, framing: Framing) -> usize
 {
     match framing {
         Framing::Binary => place,
-        Framing::Ascii => {
-            frame[place] = 0x0D;
-            place + 1
-        }
+        Framing::Ascii => put_one(frame, place, 0x0D),
     }
 }
 
-// "Length byte, message (type byte first), two sum bytes", between start and stop, at the beginning
-// of the part that it is lent. What it says is the frame's length.
-fn put_frame(frame: &mut [u8], message: &[u8], framing: Framing) -> usize
-    requires message_len_bound { length message.now ≤ longest_known }
-    requires message_in_bounds { length (frame_of framing message.now) ≤ length frame.old }
-    ensures { Put frame.old 0 (frame_of framing message.now) frame.new result }
-{
-    frame[0] = standard::start_of(framing);
-    let first = put_coded(frame, 1, message.len() as u8, framing);
-    let coded = put_summed(frame, first, message, framing);
-    let sums = coded.sums;
-    let one = put_coded(frame, coded.next, sums.one, framing);
-    let two = put_coded(frame, one, sums.two, framing);
-    put_stop(frame, two, framing)
+// A good message, and the framing in which it becomes a frame.
+#[derive(Clone, Copy)]
+struct Frame<'a> {
+    message: &'a [u8],
+    framing: Framing,
+    ghost good: { check_of message.now ≡ 0 },
 }
 
-// "A refusal says length 0."
-fn refused(number: u8) -> Written
-    ensures { result ≡ refusing number }
-{
-    Written { number, length: 0 }
+impl Frame<'_> {
+    // In binary, in one pass: the sums may need an escape too.
+    #[tactic(auto, using(standard::proofs::Messages::good_few))]
+    fn binary_length(&self) -> usize
+        ensures { result ≡ length (frame_of Binary self.now.message.now) }
+    {
+        let n = self.message.len() as u8;
+        let mut sums = sums::with(sums::NONE, n);
+        let mut size = stuffed_length(n);
+        for &b in self.message {
+            sums = sums::with(sums, b);
+            size += stuffed_length(b);
+        }
+        1 + size + stuffed_length(sums.one) + stuffed_length(sums.two)
+    }
+
+    // How long the frame is.
+    #[tactic(auto, using(standard::proofs::Messages::good_few, crate::proofs::Pieces::ascii_size))]
+    fn length(&self) -> usize
+        ensures { result ≡ length (frame_of self.now.framing self.now.message.now) }
+    {
+        match self.framing {
+            Framing::Binary => self.binary_length(),
+            Framing::Ascii => 2 * self.message.len() + 8,
+        }
+    }
+
+    // Whether it fits, or 9. Where the longest frame would fit, its own length need not be measured.
+    #[tactic(auto, using(crate::proofs::Lengths::frame_most))]
+    fn check_room(&self, place: usize, size: usize) -> Result<(), Refusal>
+        ensures { number_in result ≡ room_refusal (length (frame_of self.now.framing self.now.message.now)) place size }
+    {
+        if place <= size && (LONGEST_FRAME <= size - place || self.length() <= size - place) {
+            Ok(())
+        } else {
+            Err(Refusal::NoRoom)
+        }
+    }
+
+    // "Length byte, message (type byte first), two sum bytes", between start and stop, at the
+    // beginning of the part that it is lent; the sums are "over the length byte and all message
+    // bytes", each before it is coded. What it says is the frame's length.
+    #[tactic(auto, using(standard::proofs::Messages::good_few))]
+    fn put(&self, out: &mut [u8]) -> usize
+        requires { length (frame_of self.now.framing self.now.message.now) ≤ length out.old }
+        ensures { Put out.old 0 (frame_of self.now.framing self.now.message.now) out.new result }
+    {
+        let Frame { message, framing } = *self;
+        let n = message.len() as u8;
+        let mut sums = sums::with(sums::NONE, n);
+        out[0] = standard::start_of(framing);
+        let mut next = put_coded(out, 1, n, framing);
+        for &b in message {
+            next = put_coded(out, next, b, framing);
+            sums = sums::with(sums, b);
+        }
+        next = put_coded(out, next, sums.one, framing);
+        next = put_coded(out, next, sums.two, framing);
+        put_stop(out, next, framing)
+    }
 }
 
 // The frame goes "into the part of the out buffer that starts at that place": once it is known to
-// fit there, that part is lent to what puts it.
-pub fn write(message: &[u8], framing: Framing, out: &mut [u8], place: usize) -> Written
-    ensures { Wrote message.now framing out.old place result out.new }
+// fit there, that part is lent to what puts it. What it says is the frame's length.
+pub fn write(
+    message: &[u8],
+    framing: Framing,
+    out: &mut [u8],
+    place: usize,
+) -> Result<usize, Refusal>
+    ensures { Wrote message.now framing out.old place (written_in result) out.new }
 {
-    let checked = messages::check(message);
-    if checked != 0 {
-        return refused(checked);
-    }
-    let number = refusal(message, framing, place, out.len());
-    if number != 0 {
-        return refused(number);
-    }
-    let length = put_frame(&mut out[place..], message, framing);
-    Written { number: 0, length }
+    messages::check(message)?;
+    let frame = Frame { message, framing };
+    frame.check_room(place, out.len())?;
+    Ok(frame.put(&mut out[place..]))
 }

@@ -1,11 +1,6 @@
--- The loop of `frames::run`: so many plain bytes were taken, and they are laid after those that were held. Assumes
--- nothing.
-use Rattle.std.proofs.Common.{◌-◌, ◌≤◌}
+-- The loop of `frames::run`: so many plain bytes are laid in the room. Assumes nothing.
 use Rattle.frames.proofs.Plainly.{Laid}
 use Rattle.frames.proofs.run.Given as goal
 
 abbrev pub invariant-loop-i : goal.invariant-loop-i
-invariant-loop-i l = (l.i ≤ l.end - l.held) × Laid l.framing l.bytes l.fn.frame l.held l.i l.frame
-
-abbrev pub decreases-loop-i : goal.decreases-loop-i
-decreases-loop-i l = l.end - l.held - l.i
+invariant-loop-i l = Laid l.framing l.bytes l.fn.room l.i l.room

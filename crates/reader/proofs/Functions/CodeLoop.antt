@@ -6,7 +6,7 @@ use native.Mathlib.Numerals.{add-one}
 use native.Mathlib.Omega.{arith}
 use mathlib.Core.Path.{◌≡◌, refl, sym, ap, subst⁻¹, ◌∙◌}
 use mathlib.Core.Logic.{◌⊎◌, inl, inr}
-use mathlib.Core.Bool.{Bool, true, false, cond}
+use mathlib.Core.Bool.{true, false, cond}
 use mathlib.Core.List.{List, [], ◌∷◌, ◌++◌, map}
 use lib.Dec.{eqb}
 use lib.ListN.{length, get_or, take, drop, set, length-append, length-take, length-drop, take-append-drop}
@@ -15,8 +15,9 @@ use lib.Seq.{length-take-le, drop-cons, drop-drop, append_snoc, set_split}
 use borrow.Author.Tests.{eqb-false}
 use Rattle.standard.specs.declared.Framing.{Framing}
 use Rattle.standard.specs.declared.Framing.TheVariants.{Binary, Ascii}
-use Rattle.standard.specs.declared.Said.{Said}
-use Rattle.standard.specs.declared.Said.TheVariants.{Silent, Gave}
+use Rattle.std.specs.Prelude.{Option}
+use Rattle.standard.specs.declared.Verdict.{Verdict}
+use Rattle.std.specs.Prelude.{Some, None}
 use Rattle.standard.specs.Words.{laid}
 use Rattle.standard.specs.Messages.{longest, length_ok}
 use Rattle.standard.specs.Framing.{start_of}
@@ -58,36 +59,39 @@ first_held bytes zero = refl
 first_held [] (suc n) = refl
 first_held (b ∷ bytes) (suc n) = refl
 
-module _ (bytes : List ℕ) (n x : ℕ) (few : n ≤ length bytes) where
-  -- a byte kept after those held is stored at their number
-  laid_kept : (k : Bool) → (k ≡ true → n < length bytes)
-      → laid bytes 0 (cond k (take n bytes ++ (x ∷ [])) (take n bytes)) ≡ cond k (set bytes n x) bytes
-  laid_kept true room =
-      let h = room refl in
+-- a byte kept after those held is stored at their number
+abbrev pub stored : Option ℕ → ℕ → List ℕ → List ℕ
+stored None n bytes = bytes
+stored (Some x) n bytes = set bytes n x
+
+module _ (bytes : List ℕ) (n : ℕ) (few : n ≤ length bytes) where
+  laid_kept : (keep : Option ℕ) → ((x : ℕ) → keep ≡ Some x → n < length bytes)
+      → laid bytes 0 (kept_by keep (take n bytes)) ≡ stored keep n bytes
+  laid_kept (Some x) room =
+      let h = room x refl in
       laid_front bytes (take n bytes ++ (x ∷ []))
       ∙ rw (length_snoc (take n bytes) x, length-take-le n bytes few, append_snoc (take n bytes) x (drop (suc n) bytes))
       (sym (set_split bytes n x h))
-  laid_kept false room = laid_front bytes (take n bytes) ∙ rw (length-take-le n bytes few) (take-append-drop n bytes)
+  laid_kept None room = laid_front bytes (take n bytes) ∙ rw (length-take-le n bytes few) (take-append-drop n bytes)
 
   -- after a byte that says nothing, what is held lies over it
-  laid_held : (k : Bool) (m : ℕ) → (k ≡ true → n < length bytes)
-      → Bound Nothing k m (cond k (take n bytes ++ (x ∷ [])) (take n bytes))
-      → laid bytes 0 (cond (eqb m 0) [] (cond k (take n bytes ++ (x ∷ [])) (take n bytes))) ≡ cond k
-      (set bytes n x) bytes
-  laid_held true m room e = rw (all_held (take n bytes ++ (x ∷ [])) m (sym e)) (laid_kept true room)
-  laid_held false m room e =
-      by_test (λ l. laid bytes 0 l ≡ bytes) (eqb m 0) [] (take n bytes) (λ t. refl) (λ t. laid_kept false room)
+  laid_held : (keep : Option ℕ) (m : ℕ) → ((x : ℕ) → keep ≡ Some x → n < length bytes)
+      → Bound Nothing keep m (kept_by keep (take n bytes))
+      → laid bytes 0 (cond (eqb m 0) [] (kept_by keep (take n bytes))) ≡ stored keep n bytes
+  laid_held (Some x) m room e = rw (all_held (take n bytes ++ (x ∷ [])) m (sym e)) (laid_kept (Some x) room)
+  laid_held None m room e =
+      by_test (λ l. laid bytes 0 l ≡ bytes) (eqb m 0) [] (take n bytes) (λ t. refl) (λ t. laid_kept None room)
 
 -- ---- a frame that is judged
 
 -- its length was held, and is one that is read
-known_length : (held : List ℕ) (beyond : ℕ) → Few beyond held → (k : Bool) (x : ℕ)
-    → get_or (cond k (held ++ (x ∷ [])) held) 0 0 + 3 ≤ length (cond k (held ++ (x ∷ [])) held)
-    → length_ok (get_or (cond k (held ++ (x ∷ [])) held) 0 0) ≡ true
-known_length [] beyond f true x h = absurd (omega arith)
-known_length [] beyond f false x h = absurd (omega arith)
-known_length (L ∷ rest) beyond f true x h = f.0
-known_length (L ∷ rest) beyond f false x h = f.0
+known_length : (held : List ℕ) (beyond : ℕ) → Few beyond held → (keep : Option ℕ)
+    → get_or (kept_by keep held) 0 0 + 3 ≤ length (kept_by keep held)
+    → length_ok (get_or (kept_by keep held) 0 0) ≡ true
+known_length [] beyond f None h = absurd (omega arith)
+known_length [] beyond f (Some x) h = absurd (omega arith)
+known_length (L ∷ rest) beyond f None h = f.0
+known_length (L ∷ rest) beyond f (Some x) h = f.0
 
 -- what stands after it in the array does not count
 complete_front : (frame more : List ℕ) → length_ok (get_or frame 0 0) ≡ true → get_or frame 0 0 + 3 ≤ length frame
@@ -123,14 +127,7 @@ pub record Turn (r : Reader) (bs : List ℕ) (i : ℕ) (now : Reader) (d : Decis
 
 -- the array after it, and the reader
 abbrev pub stored_by : Decision → Reader → List ℕ
-stored_by d now = cond d.keep (set now.bytes now.held d.byte) now.bytes
-
-pub stored_kept : (d : Decision) (now : Reader) → d.keep ≡ true
-    → set now.bytes now.held d.byte ≡ stored_by d now
-stored_kept d now e = rw e
-
-pub stored_same : (d : Decision) (now : Reader) → d.keep ≡ false → now.bytes ≡ stored_by d now
-stored_same d now e = rw e
+stored_by d now = stored d.keep now.held now.bytes
 
 abbrev pub reader_by : Decision → Reader → Reader
 reader_by d now = record { mode = d.mode; held = d.held; bytes = stored_by d now; escapes = now.escapes }
@@ -141,29 +138,29 @@ module _ {r : Reader} {bs : List ℕ} {i : ℕ} {now : Reader} {d : Decision} (t
 
   -- the frame's bytes after it, and what is said
   abbrev frame : List ℕ
-  frame = kept_by d (take now.held now.bytes)
+  frame = kept_by d.keep (take now.held now.bytes)
 
   abbrev said : List Handed
-  said = said_by d.outcome d.number frame
+  said = said_by d.outcome frame
 
   few : now.held ≤ length now.bytes
   unfolding Whole
   few = omega (arith, sound_held now t.so_far.sound, t.so_far.size)
 
   -- there is room for a byte that is kept
-  pub room : d.keep ≡ true → now.held < length now.bytes
+  pub room : (x : ℕ) → d.keep ≡ Some x → now.held < length now.bytes
   unfolding Whole
-  room e =
+  room x e =
       let s = step_of now.escapes (state_of now) b in
       let all : length s.kept ≤ longest + 3 =
       (keeps_step now.escapes (state_of now) b).0.few (reader_fits now t.so_far.sound) in
-      let more : s.kept ≡ take now.held now.bytes ++ (d.byte ∷ []) = rw e at t.done.kept in
+      let more : s.kept ≡ take now.held now.bytes ++ (x ∷ []) = rw e at t.done.kept in
       let n : length (take now.held now.bytes) ≡ now.held = length-take-le now.held now.bytes few in
-      omega (arith, ap length more, length_snoc (take now.held now.bytes) d.byte, t.so_far.size)
+      omega (arith, ap length more, length_snoc (take now.held now.bytes) x, t.so_far.size)
 
   -- the frame's bytes begin the array
   begins : stored_by d now ≡ frame ++ drop (length frame) now.bytes
-  begins = sym (laid_kept now.bytes now.held d.byte few d.keep room) ∙ laid_front now.bytes frame
+  begins = sym (laid_kept now.bytes now.held few d.keep room) ∙ laid_front now.bytes frame
 
   sums_held : d.outcome ≡ Judgement → get_or frame 0 0 + 3 ≤ length frame
   sums_held e = rw e at t.done.bound
@@ -174,22 +171,22 @@ module _ {r : Reader} {bs : List ℕ} {i : ℕ} {now : Reader} {d : Decision} (t
       rw begins
       (complete_front frame (drop (length frame) now.bytes)
       (known_length (take now.held now.bytes) (beyond_length now.mode) (reader_fits now t.so_far.sound).0
-      d.keep d.byte h) h)
+      d.keep h) h)
 
   -- the answer to the one byte, by what it comes to
   by_outcome : (o : Outcome) (s : Step) → Bound o d.keep d.held frame
       → s.next ≡ record { mode = d.mode; held = held_by d (take now.held now.bytes) }
-      → s.said ≡ said_by o d.number frame → s.kept ≡ frame
+      → s.said ≡ said_by o frame → s.kept ≡ frame
       → read_from now
       (read_on s.said s (scan_of now.escapes s.next []))
-      ≡ record { reader = reader_by d now; used = 1; said = said_by o d.number frame }
+      ≡ record { reader = reader_by d now; used = 1; said = said_by o frame }
   unfolding scan_of
   by_outcome Nothing s w n h k =
-      rw (h, n, laid_held now.bytes now.held d.byte few d.keep d.held room w, ← t.done.count)
-  by_outcome Number s w n h k =
-      rw (h, n, k, laid_kept now.bytes now.held d.byte few d.keep room, ← t.done.count)
+      rw (h, n, laid_held now.bytes now.held few d.keep d.held room w, ← t.done.count)
+  by_outcome (Number number) s w n h k =
+      rw (h, n, k, laid_kept now.bytes now.held few d.keep room, ← t.done.count)
   by_outcome Judgement s w n h k =
-      rw (h, n, k, laid_kept now.bytes now.held d.byte few d.keep room, ← t.done.count)
+      rw (h, n, k, laid_kept now.bytes now.held few d.keep room, ← t.done.count)
 
   one_byte : read_of now (b ∷ []) ≡ record { reader = reader_by d now; used = 1; said = said }
   unfolding scan_of
@@ -233,7 +230,7 @@ module _ {r : Reader} {bs : List ℕ} {i : ℕ} {now : Reader} {d : Decision} (t
 
 -- ---- what `read` promises, at each of its ways out
 
-reads : (r : Reader) (bs : List ℕ) (a : Given) (said : Said) → read_of r bs ≡ a
+reads : (r : Reader) (bs : List ℕ) (a : Given) (said : Option Verdict) → read_of r bs ≡ a
     → verdicts_in said ≡ map verdict_for a.said → Reads r bs a.reader a.used said
 reads r bs a said e v =
     let next : a.reader ≡ (read_of r bs).reader = ap (λ x. x.reader) (sym e) in
@@ -250,28 +247,28 @@ reads r bs a said e v =
     }
 
 pub reads_all : {r : Reader} {bs : List ℕ} {i : ℕ} {now : Reader} → SoFar r bs i now → length bs ≤ i
-    → Reads r bs now i Silent
+    → Reads r bs now i None
 reads_all {r} {bs} {i} {now} t h =
-    reads r bs (record { reader = now; used = i; said = [] }) Silent
+    reads r bs (record { reader = now; used = i; said = [] }) None
     (t.left ∙ rw (drop_of_length-le bs h, read_none now t.size t.sound, add-zero i)) refl
 
-pub reads_number : {r : Reader} {bs : List ℕ} {i : ℕ} {now : Reader} {d : Decision} → Turn r bs i now d
-    → d.outcome ≡ Number
-    → (said : Said) → said ≡ Gave (verdict_for (handing d.number [])) → Reads r bs (reader_by d now) (i + 1) said
-reads_number {r} {bs} {i} {now} {d} t o said e =
-    let h = handing d.number [] in
+pub reads_number : {r : Reader} {bs : List ℕ} {i : ℕ} {now : Reader} {d : Decision} → Turn r bs i now d → (number : ℕ)
+    → d.outcome ≡ Number number
+    → (said : Option Verdict) → said ≡ Some (verdict_for (handing number [])) → Reads r bs (reader_by d now) (i + 1) said
+reads_number {r} {bs} {i} {now} {d} t number o said e =
+    let h = handing number [] in
     reads r bs (record { reader = reader_by d now; used = i + 1; said = h ∷ [] }) said (verdict_here t h (rw o))
     (ap verdicts_in e)
 
 pub reads_judged : {r : Reader} {bs : List ℕ} {i : ℕ} {now : Reader} {d : Decision} → Turn r bs i now d
     → d.outcome ≡ Judgement
-    → (said : Said) → said ≡ said_of (judged_frame (stored_by d now)) → Reads r bs (reader_by d now) (i + 1) said
+    → (said : Option Verdict) → said ≡ said_of (judged_frame (stored_by d now)) → Reads r bs (reader_by d now) (i + 1) said
 reads_judged {r} {bs} {i} {now} {d} t o said e =
     let h = judged_of (stored_by d now) in
     let more = drop (length (frame t)) now.bytes in
     let front : judged_of (stored_by d now) ≡ judged_of (frame t) =
     rw (begins t) (judged_front (frame t) more (sums_held t o)) in
-    let verdict : said ≡ Gave (verdict_for h) = e ∙ ap said_of (judged_whole (stored_by d now) (complete t o)) in
+    let verdict : said ≡ Some (verdict_for h) = e ∙ ap said_of (judged_whole (stored_by d now) (complete t o)) in
     reads r bs (record { reader = reader_by d now; used = i + 1; said = h ∷ [] }) said (verdict_here t h (rw (o, front)))
     (ap verdicts_in verdict)
 
@@ -463,7 +460,7 @@ takes_on {r} {bs} {i} {now} taken after t = by_mode now.mode refl
 
 -- ---- with the frame's bytes in lent memory
 
-pub lent_reads : (r : Reader) (bs : List ℕ) (reader : Reader) (used : ℕ) (said : Said) → length r.bytes ≡ longest + 3
+pub lent_reads : (r : Reader) (bs : List ℕ) (reader : Reader) (used : ℕ) (said : Option Verdict) → length r.bytes ≡ longest + 3
     → Reads r bs reader used said
     → Lent r bs reader used said
 lent_reads r bs reader used said e w = record {
@@ -472,7 +469,7 @@ lent_reads r bs reader used said e w = record {
 }
 
 -- a state that is not sound, or an array of another size, is handed back with 12
-refused : (r : Reader) (bs : List ℕ) (said : Said) → said ≡ Gave (verdict_for (handing 12 []))
+refused : (r : Reader) (bs : List ℕ) (said : Option Verdict) → said ≡ Some (verdict_for (handing 12 []))
     → lent_read r bs ≡ not_sound r → Lent r bs r 0 said
 refused r bs said e k = record {
   gives = subst⁻¹ (Gives r said) k
@@ -480,12 +477,12 @@ refused r bs said e k = record {
   uses = ap (λ a. a.used) (sym k);
 }
 
-pub lent_other : (r : Reader) (bs : List ℕ) (said : Said) → said ≡ Gave (verdict_for (handing 12 []))
+pub lent_other : (r : Reader) (bs : List ℕ) (said : Option Verdict) → said ≡ Some (verdict_for (handing 12 []))
     → (length r.bytes ≡ longest + 3 → ⊥)
     → Lent r bs r 0 said
 lent_other r bs said e h = refused r bs said e (lent_none r bs h)
 
-pub lent_unsound : (r : Reader) (bs : List ℕ) (said : Said) → said ≡ Gave (verdict_for (handing 12 []))
+pub lent_unsound : (r : Reader) (bs : List ℕ) (said : Option Verdict) → said ≡ Some (verdict_for (handing 12 []))
     → length r.bytes ≡ longest + 3
     → sound_reader r ≡ false → Lent r bs r 0 said
 lent_unsound r bs said e h k = refused r bs said e (lent_read_lem r bs h ∙ read_unsound r bs k)

@@ -12,7 +12,8 @@ use lib.Seq.{length-take-le, take-append_seam, drop-append-add, drop-drop}
 use borrow.Author.Tests.{eq-eqb, ne_eqb}
 use Rattle.standard.specs.declared.Framing.{Framing}
 use Rattle.standard.specs.declared.Escapes.{Escapes}
-use Rattle.standard.specs.declared.Said.{Said}
+use Rattle.std.specs.Prelude.{Option}
+use Rattle.standard.specs.declared.Verdict.{Verdict}
 use Rattle.standard.specs.Words.{laid}
 use Rattle.standard.specs.Messages.{longest}
 use Rattle.standard.specs.Judge.{Handed}
@@ -216,7 +217,7 @@ unfolding lent_read
 lent_none r bs h = rw (ne_eqb (length r.bytes) (longest + 3) h)
 
 -- what `scan` promises of such an array is what `read` promises
-pub lent_is_read : (r : Reader) (bs : List ℕ) (reader : Reader) (used : ℕ) (said : Said)
+pub lent_is_read : (r : Reader) (bs : List ℕ) (reader : Reader) (used : ℕ) (said : Option Verdict)
     → length r.bytes ≡ longest + 3
     → Lent r bs reader used said → Reads r bs reader used said
 lent_is_read r bs reader used said e w = record {

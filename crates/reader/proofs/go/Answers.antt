@@ -1,9 +1,9 @@
 -- Answers for `reader::go`: a turn of the loop decides on a byte, keeps it where it is to be kept, and takes the plain bytes
 -- that follow it.
 use Rattle.std.proofs.Common.{◌≡◌, ℕ, ◌+◌, ◌-◌, ◌≤◌, ◌<◌, List, length, get_or, take, drop, arith}
-use lib.ListN.{length-drop}
-use lib.Seq.{length-take-le, take_all}
-use Rattle.standard.specs.declared.Said.{Said}
+use Rattle.std.proofs.Common.{length-drop, length-take-le, take_all}
+use Rattle.std.specs.Prelude.{Option}
+use Rattle.standard.specs.declared.Verdict.{Verdict}
 use Rattle.standard.specs.Messages.{longest}
 use Rattle.frames.specs.declared.Taken.{Taken}
 use Rattle.frames.specs.Judging.{judged_frame, said_of}
@@ -16,7 +16,7 @@ use Rattle.reader.proofs.State.Soundness.{sound_held}
 use Rattle.reader.proofs.State.Arrays.{Whole}
 use Rattle.reader.proofs.Functions.CodeLoop.{first_held, SoFar, Turn, stored_by, reader_by, room, goes_on, takes_on}
 use Rattle.reader.proofs.Functions.CodeLoop.{skipped_on, reads_all, reads_number, reads_judged}
-use Rattle.reader.proofs.go.Goals.{then-decision, else-decision}
+use Rattle.reader.proofs.go.Goals.{in-Some, in_default}
 use Rattle.reader.proofs.go.Goals as goal
 
 -- the bytes held have room in the array
@@ -48,67 +48,50 @@ went {r} {bs} {i} t quiet taken after takes kept =
 
 -- after a verdict: the array is the one in which the byte was kept
 ended : {r : Reader} {bs : List ℕ} {i : ℕ} {now : Reader} {d : Decision} → Turn r bs i now d
-    → {frame : List ℕ} {used : ℕ} {said : Said} → Reads r bs (reader_by d now) used said → frame ≡ stored_by d now
+    → {frame : List ℕ} {used : ℕ} {said : Option Verdict} → Reads r bs (reader_by d now) used said → frame ≡ stored_by d now
     → Reads r bs (record { mode = d.mode; held = d.held; bytes = frame; escapes = now.escapes }) used said
 ended t reads kept = rw kept reads
 
 -- and after one on the whole frame
 judged : {r : Reader} {bs : List ℕ} {i : ℕ} {now : Reader} {d : Decision} → Turn r bs i now d → d.outcome ≡ Judgement
-    → {frame : List ℕ} {said : Said} → said ≡ said_of (judged_frame frame) → frame ≡ stored_by d now
+    → {frame : List ℕ} {said : Option Verdict} → said ≡ said_of (judged_frame frame) → frame ≡ stored_by d now
     → Reads r bs (record { mode = d.mode; held = d.held; bytes = frame; escapes = now.escapes }) (i + 1) said
 judged t outcome is kept = ended t (reads_judged t outcome _ (rw kept at is)) kept
 
-pub loop-i-init : goal.loop-i-init
-loop-i-init c =
-    skipped_on _ c.args.bytes.now c.skipped-i.result c.requires.frame_len c.requires.frame_value c.skipped-i.ensures
+pub loop-used-init : goal.loop-used-init
+loop-used-init c =
+    skipped_on _ c.args.bytes.now c.skipped-used.result c.requires.frame_len c.requires.frame_value c.skipped-used.ensures
 
 pub bounds-frame-held : goal.bounds-frame-held
 bounds-frame-held c =
-    room (turn c.loop-i.invariant c.loop-i-test.true c.decide-decision.ensures) c.if-decision.true
+    room (turn c.loop-used.invariant c.loop-used-test.true c.decide-decision.ensures) c.in-Some.byte c.in-Some.is
 
 pub overflow_add-held : goal.overflow_add-held
 overflow_add-held c =
-    let t = turn c.loop-i.invariant c.loop-i-test.true c.decide-decision.ensures in
-    let w = went t c.in-Nothing.is c.take-taken.result c.take-taken.new.frame c.take-taken.ensures (elim c.if-decision.branch [
-      | then-decision w ↦ rw w.if-decision.true w.frame-is
-      | else-decision w ↦ rw w.if-decision.false w.frame-is
-    ]) in
+    let t = turn c.loop-used.invariant c.loop-used-test.true c.decide-decision.ensures in
+    let w = went t c.in-Nothing.is c.take-taken.result c.take-taken.new.frame c.take-taken.ensures (grind arith) in
     omega (arith, few w)
 
-pub overflow_add-i-in-Nothing : goal.overflow_add-i-in-Nothing
-overflow_add-i-in-Nothing c =
-    let t = turn c.loop-i.invariant c.loop-i-test.true c.decide-decision.ensures in
-    let w = went t c.in-Nothing.is c.take-taken.result c.take-taken.new.frame c.take-taken.ensures (elim c.if-decision.branch [
-      | then-decision w ↦ rw w.if-decision.true w.frame-is
-      | else-decision w ↦ rw w.if-decision.false w.frame-is
-    ]) in
+pub overflow_add-used-in-Nothing : goal.overflow_add-used-in-Nothing
+overflow_add-used-in-Nothing c =
+    let t = turn c.loop-used.invariant c.loop-used-test.true c.decide-decision.ensures in
+    let w = went t c.in-Nothing.is c.take-taken.result c.take-taken.new.frame c.take-taken.ensures (grind arith) in
     omega (arith, w.within, c.well_formed)
 
-pub loop-i-preserved : goal.loop-i-preserved
-loop-i-preserved c =
-    let t = turn c.loop-i.invariant c.loop-i-test.true c.decide-decision.ensures in
-    went t c.in-Nothing.is c.take-taken.result c.take-taken.new.frame c.take-taken.ensures (elim c.if-decision.branch [
-      | then-decision w ↦ rw w.if-decision.true w.frame-is
-      | else-decision w ↦ rw w.if-decision.false w.frame-is
-    ])
+pub loop-used-preserved : goal.loop-used-preserved
+loop-used-preserved c =
+    let t = turn c.loop-used.invariant c.loop-used-test.true c.decide-decision.ensures in
+    went t c.in-Nothing.is c.take-taken.result c.take-taken.new.frame c.take-taken.ensures (grind arith)
 
 pub returns-in-Number : goal.returns-in-Number
 returns-in-Number c =
-    let t = turn c.loop-i.invariant c.loop-i-test.true c.decide-decision.ensures in
-    rw c.gives.ensures
-    (ended t (reads_number t c.in-Number.is c.plain.result c.plain.ensures) (elim c.if-decision.branch [
-      | then-decision w ↦ rw w.if-decision.true w.frame-is
-      | else-decision w ↦ rw w.if-decision.false w.frame-is
-    ]))
+    let t = turn c.loop-used.invariant c.loop-used-test.true c.decide-decision.ensures in
+    ended t (reads_number t c.in-Number.number c.in-Number.is _ c.plain-said.ensures) (grind arith)
 
 pub returns-in-Judgement : goal.returns-in-Judgement
 returns-in-Judgement c =
-    let t = turn c.loop-i.invariant c.loop-i-test.true c.decide-decision.ensures in
-    rw c.gives-in-Judgement.ensures
-    (judged t c.in-Judgement.is c.judge.ensures (elim c.if-decision.branch [
-      | then-decision w ↦ rw w.if-decision.true w.frame-is
-      | else-decision w ↦ rw w.if-decision.false w.frame-is
-    ]))
+    let t = turn c.loop-used.invariant c.loop-used-test.true c.decide-decision.ensures in
+    judged t c.in-Judgement.is c.judge-said.ensures (grind arith)
 
 pub returns : goal.returns
-returns c = rw c.gives-2.ensures (reads_all c.loop-i.invariant c.loop-i-test.false)
+returns c = reads_all c.loop-used.invariant c.loop-used-test.false

@@ -1,11 +1,10 @@
--- Slots that are not eight are refused with 22, and stay. Assumes nothing.
-use Rattle.std.proofs.Common.{sym, ap, ◌∙◌}
-use Rattle.commands.specs.Commands.{after}
+-- What `commands::take` does by value is done to the lent slots. Assumes nothing.
+use Rattle.commands.specs.Commands.{take_of}
 use Rattle.commands.proofs.NotEight.{take_not_eight}
-use Rattle.slots.proofs.Line.{unlike}
+use Rattle.slots.proofs.Line.{done}
 use Rattle.slots.proofs.take.Goals as goal
 
-pub returns-then-slots-ne8 : goal.returns-then-slots-ne8
-returns-then-slots-ne8 c =
+pub returns : goal.returns
+returns c =
     let xs = c.args.slots.now in
-    ap (λ a. after a xs) c.refused.ensures ∙ sym (take_not_eight c.args.message.now xs (unlike _ c.if-slots-ne8.true))
+    done xs _ _ (take_of c.args.message.now xs) c.on_line.ensures.others (λ n. take_not_eight xs n c.args.message.now) c.on_line.ensures.eight

@@ -1,11 +1,10 @@
--- Slots that are not eight are refused with 22, and stay. Assumes nothing.
-use Rattle.std.proofs.Common.{sym, ap, ◌∙◌}
-use Rattle.commands.specs.Commands.{after}
+-- What `commands::tick` does by value is done to the lent slots. Assumes nothing.
+use Rattle.commands.specs.Commands.{tick_of}
 use Rattle.commands.proofs.NotEight.{tick_not_eight}
-use Rattle.slots.proofs.Line.{unlike}
+use Rattle.slots.proofs.Line.{done}
 use Rattle.slots.proofs.tick.Goals as goal
 
-pub returns-then-slots-ne8 : goal.returns-then-slots-ne8
-returns-then-slots-ne8 c =
+pub returns : goal.returns
+returns c =
     let xs = c.args.slots.now in
-    ap (λ a. after a xs) c.refused.ensures ∙ sym (tick_not_eight xs (unlike _ c.if-slots-ne8.true))
+    done xs _ _ (tick_of xs) c.on_line.ensures.others (λ n. tick_not_eight xs n) c.on_line.ensures.eight

@@ -1,9 +1,6 @@
 -- A space, and the two digits. Assumes nothing.
-use native.Mathlib.Omega.{arith}
-use Rattle.standard.proofs.Put.{put_then, fits_put}
+use Rattle.puts.proofs.Puts.{puts_part, puts_then}
 use Rattle.text.proofs.put_hex.Goals as goal
 
 pub returns : goal.returns
-returns c =
-    let digits = fits_put c.part.ensures (omega (arith, c.requires, c.put-next.ensures.end)) in
-    rw (← c.two_digits-digits.ensures) (put_then c.put-next.ensures digits)
+returns c = rw (← c.two_digits.ensures) (puts_then (puts_part c.part.ensures) (puts_part c.part-2.ensures))

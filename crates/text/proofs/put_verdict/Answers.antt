@@ -1,13 +1,8 @@
 -- The fields of the line, one after another. Assumes nothing.
-use native.Mathlib.Omega.{arith}
-use Rattle.standard.specs.Replies.{reply_number}
-use Rattle.standard.proofs.Put.{put_then, fits_put}
-use Rattle.standard.proofs.Report.{line_length}
-use Rattle.text.specs.Lines.{handed_with}
+use Rattle.puts.proofs.Puts.{puts_part, puts_then}
 use Rattle.text.proofs.put_verdict.Goals as goal
 
 pub returns : goal.returns
 returns c =
-    let room = line_length (handed_with c.args.verdict) (reply_number c.args.reply) in
-    let number = fits_put c.decimal-a.ensures (omega (arith, room, c.requires)) in
-    put_then (put_then (put_then number c.put_type-b.ensures) c.put_reply-c.ensures) c.put.ensures
+    let fields = puts_then (puts_then (puts_part c.decimal.ensures) c.put_type.ensures) c.put_reply.ensures in
+    puts_then fields (puts_part c.part.ensures)

@@ -1,10 +1,9 @@
--- The first `used` bytes are heard, their good messages put into the table, and the lines of their verdicts into the
--- buffer. Assumes nothing.
-use Rattle.std.proofs.Common.{length, ◌-◌, take, ℕ, List}
+-- As many bytes are heard as are used, and the lines of what they hand out are put. Assumes nothing.
+use Rattle.std.proofs.Common.{◌-◌, ℕ, length, take, List}
 use Rattle.standard.specs.declared.Escapes.TheVariants.{Lenient}
-use Rattle.standard.specs.Words.{Put}
-use Rattle.reader.specs.declared.Reader.{Reader}
 use Rattle.reader.specs.declared.Mode.{Mode}
+use Rattle.reader.specs.declared.Reader.{Reader}
+use Rattle.puts.specs.Out.{Puts}
 use Rattle.text.proofs.Turns.{lines_of, HeardTo}
 use Rattle.text.proofs.put_verdicts.Given as goal
 
@@ -15,7 +14,7 @@ reader_of mode held frame = record { mode = mode; held = held; bytes = frame; es
 abbrev pub invariant-loop-used : goal.invariant-loop-used
 invariant-loop-used l =
     HeardTo l.capture l.fn.table l.used (reader_of l.mode l.held l.frame) l.table
-    × Put l.fn.out 0 (lines_of (take l.used l.capture)) l.out l.place
+    × Puts l.fn.out (lines_of (take l.used l.capture)) l.out
 
 abbrev pub decreases-loop-used : goal.decreases-loop-used
 decreases-loop-used l = length l.capture - l.used
