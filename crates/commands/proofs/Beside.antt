@@ -2,12 +2,14 @@
 --     sound_chain      soundness, slot by slot
 --     moves            the used ones behind the front move up by one
 --     puts             a command in the first free slot
+--     empty_line, some_line, full      none waits, some do, all do
 -- Assumes nothing.
 use Prim.Native.Nat.{suc, ◌<◌}
 use native.Mathlib.Omega.{arith}
 use mathlib.Core.Path.{◌≡◌, refl, sym, ap, ◌∙◌}
 use mathlib.Core.Bool.{Bool, true, false, cond, ◌&&◌, and-true, and_assoc}
 use mathlib.Core.List.{List, [], ◌∷◌, ◌++◌}
+use lib.Dec.{eqb, eqb-zero-suc, eqb-suc-zero, eqb-suc-suc}
 use lib.ListN.{length, drop}
 use Rattle.standard.proofs.Messages.{both_true}
 use Rattle.commands.specs.declared.Slot.{Slot}
@@ -125,3 +127,43 @@ pub puts : (new : Slot) (t : List Slot) → used_first t ≡ true → waiting t 
 unfolding put_row
 puts new [] h k = absurd (omega (arith, k))
 puts new (s ∷ t) h k = puts_at new s t (puts new t) (unused s) refl h k
+
+-- ---- none waits, all wait
+
+-- behind a free slot none waits
+pub empty_line : (s : Slot) (t : List Slot) → unused s ≡ true → used_first (s ∷ t) ≡ true → waiting_in (s ∷ t) ≡ []
+empty_line s t e h = waits_free s t e ∙ none_waits t (sym (first_free s t e) ∙ h)
+
+-- where the first is used some wait
+pub some_line : (s : Slot) (t : List Slot) → unused s ≡ false → eqb (waiting (s ∷ t)) 0 ≡ false
+some_line s t e = rw (waits_used s t e) (eqb-suc-zero (waiting t))
+
+-- the last of some slots
+unfoldable pub last_of : Slot → List Slot → Slot
+last_of s [] = s
+last_of s (b ∷ t) = last_of b t
+
+last_free : (s : Slot) (t : List Slot) → unused s ≡ true → every unused t ≡ true → unused (last_of s t) ≡ true
+unfolding last_of every
+last_free s [] e h = e
+last_free s (b ∷ t) e h = let two = both_true (unused b) (every unused t) h in last_free b t two.0 two.1
+
+full_at : (s : Slot) (t : List Slot) (next : unused s ≡ false → used_first t ≡ true
+    → eqb (waiting t) (length t) ≡ used (last_of s t))
+    (e : Bool) → unused s ≡ e → used_first (s ∷ t) ≡ true → eqb (waiting (s ∷ t)) (suc (length t)) ≡ used (last_of s t)
+full_at s t next true e h =
+    let free = sym (first_free s t e) ∙ h in
+    rw (waits_free s t e, none_waits t free, last_free s t e free) (eqb-zero-suc (length t))
+full_at s t next false e h =
+    rw (waits_used s t e) (eqb-suc-suc (waiting t) (length t) ∙ next e (sym (first_used s t e) ∙ h))
+
+full_behind : (s : Slot) (t : List Slot) → unused s ≡ false → used_first t ≡ true
+    → eqb (waiting t) (length t) ≡ used (last_of s t)
+unfolding last_of those
+full_behind s [] e h = rw e
+full_behind s (b ∷ t) e h = full_at b t (full_behind b t) (unused b) refl h
+
+-- all wait exactly if the last does
+pub full : (s : Slot) (t : List Slot) → used_first (s ∷ t) ≡ true
+    → eqb (waiting (s ∷ t)) (suc (length t)) ≡ used (last_of s t)
+full s t h = full_at s t (full_behind s t) (unused s) refl h

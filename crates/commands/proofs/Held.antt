@@ -5,7 +5,7 @@ use native.Mathlib.Omega.{arith}
 use mathlib.Core.Path.{◌≡◌, refl, sym, ap, ◌∙◌}
 use mathlib.Core.Bool.{true, false}
 use mathlib.Core.List.{List, [], ◌∷◌, ◌++◌}
-use lib.ListN.{length, get_or, set, length-append}
+use lib.ListN.{length, get_or, set}
 use Rattle.std.proofs.lemmas.List.{nil_from_length}
 use Rattle.standard.specs.Words.{first_of}
 use Rattle.commands.specs.declared.Slot.{Slot}
@@ -14,7 +14,8 @@ use Rattle.commands.specs.Places.{front}
 use Rattle.commands.specs.Runs.{Each}
 use Rattle.commands.proofs.Flag.{holds, flagged_length, few_bytes}
 use Rattle.commands.proofs.Refusing.{taken}
-use Rattle.commands.proofs.Form.{Front, Behind, Waits, sound_form, sound_waits, sound_tests_lem}
+use Rattle.commands.proofs.Form.{Front, Behind, Waits, sound_waits, sound_tests_lem}
+use Rattle.commands.proofs.Slotwise.{waits_most}
 
 -- the first of some slots goes out, if it is used
 pub goes_unused : (e : ℕ) (xs : List Slot) (d : Slot) → 1 ≤ length xs → used (get_or xs 0 d) ≡ false
@@ -52,12 +53,6 @@ unfolding those
 used_waits [] e n = absurd (omega (arith, n))
 used_waits (s ∷ t) e n = (waiting_in t, rw e)
 
--- no more wait than there are slots
-pub waits_most : (xs : List Slot) → sound xs ≡ true → waiting xs ≤ length xs
-waits_most xs h =
-    let x = sound_form xs h in
-    omega (arith, length-append (waiting_in xs) (those unused xs), ap length x.parts)
-
 -- the front of sound slots, where it is used
 module _ (xs : List Slot) (e : used (front xs) ≡ true) (h : sound xs ≡ true) where
   pub front_waits : (t : List Slot) × (waiting_in xs ≡ front xs ∷ t)
@@ -84,12 +79,16 @@ module _ (xs : List Slot) (e : used (front xs) ≡ true) (h : sound xs ≡ true)
       go (u ∷ t) fs b =
           let none = b.0.unsent in record { sent = omega (arith, none); few = (holds u b.0.holds).few }
 
+-- the front has counted five ticks at most
+pub front_early : (xs : List Slot) → unused (front xs) ≡ false → sound xs ≡ true → (front xs).ticks ≤ 5
+front_early xs e h = (sound_front xs (rw e) h).early
+
 -- a command that is not refused has room
 pub has_room : (m : List ℕ) (xs : List Slot) → first_of (take_tests m xs) ≡ 0 → waiting xs < 8
 has_room m xs h =
     let ok = taken m xs h in
     let eight = (sound_tests_lem xs ok.sound).eight in
-    omega (arith, eight, waits_most xs ok.sound, eqb-false (waiting xs) 8 ok.room)
+    omega (arith, eight, waits_most xs, eqb-false (waiting xs) 8 ok.room)
 
 -- and goes out where none waits
 pub first_placed : (m : List ℕ) (xs : List Slot) → first_of (take_tests m xs) ≡ 0 → waiting xs ≡ 0

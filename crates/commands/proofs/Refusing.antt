@@ -84,6 +84,10 @@ module _ (m : List ℕ) (xs : List Slot) where
       ≡ cond (not (sound xs)) 22 (cond (eqb (check_of m) 0) (first_of (later m xs)) (check_of m))
   take_tests_lem = ap (cond (not (sound xs)) 22) (check_then m (later m xs))
 
+  -- slots that are not sound are refused first
+  pub take_22 : sound xs ≡ false → first_of (take_tests m xs) ≡ 22
+  take_22 e = take_tests_lem ∙ rw e
+
   module _ (e : sound xs ≡ true) where
     pub take_check : (check_of m ≡ 0 → ⊥) → first_of (take_tests m xs) ≡ check_of m
     take_check n = take_tests_lem ∙ rw (e, ne_eqb (check_of m) 0 n)

@@ -1,10 +1,11 @@
 -- What the definitions say of all slots at once, as the code looks at them.
 --     sound_pairs      soundness, each slot and the one before it
+--     waits_most       no more wait than there are slots
 --     those_filter     those that pass a test, by std's word
 --     moves            the used ones behind the front move up by one
 --     puts             a command in the first free slot
 -- Assumes nothing.
-use Prim.Native.Nat.{ℕ, ◌+◌, ◌-◌, ◌<◌, ◌≤◌}
+use Prim.Native.Nat.{ℕ, suc, ◌+◌, ◌-◌, ◌<◌, ◌≤◌}
 use native.Mathlib.Omega.{arith}
 use mathlib.Core.Path.{◌≡◌, refl, sym, ap, ◌∙◌}
 use mathlib.Core.Bool.{Bool, true, false, cond, ◌&&◌, and-true, and-false}
@@ -81,6 +82,17 @@ module _ (s : Slot) (t : List Slot) where
     none_free : every unused (s ∷ t) ≡ false
     unfolding every
     none_free = rw e
+
+-- no more wait than there are slots
+most_at : (s : Slot) (t : List Slot) (e : Bool) → unused s ≡ e → waiting t ≤ length t → waiting (s ∷ t) ≤ suc (length t)
+most_at s t true e h = let same : waiting (s ∷ t) ≡ waiting t = ap length (waits_free s t e) in omega (arith, h, same)
+most_at s t false e h =
+    let more : waiting (s ∷ t) ≡ suc (waiting t) = ap length (waits_used s t e) in omega (arith, h, more)
+
+pub waits_most : (t : List Slot) → waiting t ≤ length t
+unfolding those
+waits_most [] = omega arith
+waits_most (s ∷ t) = most_at s t (unused s) refl (waits_most t)
 
 -- ---- soundness
 

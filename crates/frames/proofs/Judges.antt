@@ -1,8 +1,8 @@
 -- The verdict on a whole frame as the code comes to it: from the sums and the check of the message, by places in the
 -- frame's bytes. Assumes nothing.
-use Rattle.std.proofs.Common.{◌≡◌, ℕ, ◌+◌, ◌-◌, Bool, true, false, cond, not, eqb, List, [], ◌∷◌, length, get_or, take, drop, sym, refl, ap, add-one, arith, length-take-le, get_or-take, le-ltb, eq-eqb, ne_eqb}
+use Rattle.std.proofs.Common.{◌≡◌, ℕ, ◌+◌, ◌-◌, ◌<◌, Bool, true, false, cond, not, eqb, List, [], ◌∷◌, length, get_or, take, drop, sym, refl, ap, add-one, arith, length-take-le, get_or-take, le-ltb, lt-ltb, eq-eqb, ne_eqb}
 use Rattle.standard.specs.declared.Sums.{Sums}
-use Rattle.std.specs.Prelude.{Some}
+use Rattle.std.specs.Prelude.{None, Some}
 use Rattle.standard.specs.Words.{byte, first_of}
 use Rattle.standard.specs.Sums.{sums_of}
 use Rattle.standard.specs.Messages.{length_ok, number_of, length_for, values_ok, check_of}
@@ -102,3 +102,20 @@ judged_whole (L ∷ rest) w = rw (w.known, le-ltb (length rest) (L + 2) (omega (
 
 pub said_whole : (frame : List ℕ) → Complete frame → Some (verdict_for (judged_of frame)) ≡ said_of (judged_frame frame)
 said_whole frame w = ap said_of (sym (judged_whole frame w))
+
+-- with no byte it is silent
+pub said_none : (frame : List ℕ) → length frame ≡ 0 → None ≡ said_of (judged_frame frame)
+said_none [] e = refl
+said_none (L ∷ rest) e = absurd (omega arith)
+
+-- where the length is none that is read it says 4
+pub said_four : (frame : List ℕ) → (length frame ≡ 0 → ⊥) → length_ok (get_or frame 0 0) ≡ false
+    → Some (verdict_for (handing 4 [])) ≡ said_of (judged_frame frame)
+said_four [] e h = absurd (e refl)
+said_four (L ∷ rest) e h = rw h
+
+-- while bytes are still to come it is silent
+pub said_short : (frame : List ℕ) → length_ok (get_or frame 0 0) ≡ true → length frame < get_or frame 0 0 + 3
+    → None ≡ said_of (judged_frame frame)
+said_short [] h k = refl
+said_short (L ∷ rest) h k = rw (h, lt-ltb (length rest) (L + 2) (omega arith))

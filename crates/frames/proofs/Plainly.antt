@@ -16,10 +16,18 @@ use Rattle.standard.specs.Words.{laid}
 use Rattle.standard.specs.Messages.{longest, length_ok}
 use Rattle.standard.specs.Framing.{stuffed, value_of, digits_of, and_digit, pairs}
 use Rattle.standard.proofs.Messages.{length_ok_lem}
-use Rattle.frames.specs.Plain.{digit_of, said_value, stands, standing, plain_of, span, beyond, length_of, roomy, growth}
+use Rattle.frames.specs.Plain.{or_none, digit_in, digit_of, said_value, number_of, stands, standing, plain_of, span, beyond, length_of, roomy, growth}
 use Rattle.frames.specs.declared.Taken.{Taken}
 use Rattle.frames.specs.Plain.{TakesPlain}
 use Rattle.frames.specs.Parts.{Lays}
+
+-- a character that is no digit is worth 16
+pub no_digit_lem : (c : ℕ) → value_of c ≡ none → digit_in c ≡ 16
+no_digit_lem c e = ap or_none e
+
+-- and so is none, as code says it
+pub number_none : number_of None ≡ 16
+number_none = refl
 
 -- what code says of a character
 pub digit_some : (c d : ℕ) → Some d ≡ digit_of c → value_of c ≡ some d
@@ -282,6 +290,20 @@ growth_narrow f n frame bytes k = rw k
 -- laying nothing
 pub laid_none : (frame : List ℕ) (n : ℕ) → frame ≡ laid frame n []
 laid_none frame n = paste-zero frame n []
+
+-- it takes no more than the longest frame has
+pub growth_few : (f : Framing) (n : ℕ) (frame bytes : List ℕ) → length (growth f n frame bytes) ≤ longest + 3
+unfolding growth
+growth_few f n frame bytes = by_test (roomy n frame) (length_ok (length_of n frame (plain_of f bytes))) refl
+  where
+    by_test : (t s : Bool) → length_ok (length_of n frame (plain_of f bytes)) ≡ s
+        → length (cond (t && s)
+        (take (length_of n frame (plain_of f bytes) + beyond f - n) (plain_of f bytes)) []) ≤ longest + 3
+    by_test true true e =
+        let L = length_of n frame (plain_of f bytes) in
+        omega (arith, length-take (L + beyond f - n) (plain_of f bytes), beyond_few f, (length_ok_lem L e).few)
+    by_test true false e = omega arith
+    by_test false s e = omega arith
 
 -- ---- what code does is that
 

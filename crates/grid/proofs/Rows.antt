@@ -75,6 +75,12 @@ flat_length f size each (suc n) =
     let less = flat_length f size each n in
     rw flat_map_append (simp length-append (rw suc-mul (omega (arith, each n, less))))
 
+-- a block lies in the map: w of them stand side by side in it
+pub inside : (n w k : ℕ) → n * w ≡ 16 → k < w → n * k + n ≤ 16
+inside n w k h b =
+    let most = mul-le-mul_left n b in
+    omega (arith, mul-suc n k, most, h)
+
 -- ---- the levels
 
 -- the blocks of a level side by side are the map, of every level
@@ -92,11 +98,9 @@ wide_some Four = (omega arith, omega arith)
 wide_some Two = (omega arith, omega arith)
 wide_some One = (omega arith, omega arith)
 
--- a block lies in the map: they stand side by side in it
-pub inside : (level : Level) (k : ℕ) → k < wide level → side level * k + side level ≤ 16
-inside level k b =
-    let most = mul-le-mul_left (side level) b in
-    omega (arith, mul-suc (side level) k, most, side_wide level)
+-- and so a block of a level lies in it
+pub inside_level : (level : Level) (k : ℕ) → k < wide level → side level * k + side level ≤ 16
+inside_level level k b = inside (side level) (wide level) k (side_wide level) b
 
 -- "rows of .. f32": four bytes each
 pub row_bytes : (t : List ℕ) (level : Level) (row : ℕ) → length (row_of t level row) ≡ wide level * 4

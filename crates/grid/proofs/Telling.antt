@@ -25,7 +25,7 @@ use Rattle.grid.specs.Grid.{cell_of, heard_cell, faulted_cell}
 use Rattle.grid.specs.Grid.{little_endian, minus9999, bytes_of}
 use Rattle.grid.specs.Grid.{row_of, cells_of}
 use Rattle.grid.proofs.Blocks.{heard_rows, faulted_rows, block_bounded}
-use Rattle.grid.proofs.Rows.{flat_below, inside}
+use Rattle.grid.proofs.Rows.{flat_below, inside_level}
 
 -- ---- "A share is 0 exactly when none is faulted and 1 exactly when all heard are", and lies between
 
@@ -179,7 +179,7 @@ module _ (t u : List ℕ) (alike : Alike t u) where
       (λ row b.
       flat_below _ _ (wide level)
       (λ column c.
-      let h = inside level row b in
-      let k = inside level column c in
+      let h = inside_level level row b in
+      let k = inside_level level column c in
       ap bytes_of
       (ap₂ (share_in binary32) (same_heard n (n * row) (n * column) h k) (same_faults n (n * row) (n * column) h k))))

@@ -17,7 +17,7 @@ use contract.Lifetimes.{Lfts}
 use denote.Triple.Clauses.{AtExit}
 use Rattle.standard.specs.declared.Framing.TheVariants.{Binary, Ascii}
 use Rattle.standard.specs.declared.Escapes.TheVariants.{Strict, Lenient}
-use Rattle.standard.specs.Refusals.{written_in}
+use Rattle.standard.specs.Refusals.{Written, written_in}
 use Rattle.standard.proofs.Sheet.{written_same}
 use Rattle.standard.specs.Messages.{longest}
 use Rattle.standard.specs.Replies.{reply_of}
@@ -192,8 +192,13 @@ no_table_is_11 c t bs h =
 
 -- ---- the writer's answer
 
-pub written_once : (x y : Result ℕ Refusal) → c_written (written_in x) ≡ c_written (written_in y) → x ≡ y
-written_once x y e = written_same x y (ap (λ (c : CWritten). record { number = c.number; length = c.length }) e)
+-- C's numbers tell the paper's
+pub written_once : (w v : Written) → c_written w ≡ c_written v → w ≡ v
+written_once w v e = ap (λ (c : CWritten). record { number = c.number; length = c.length }) e
+
+-- and the answer
+pub written_said_once : (x y : Result ℕ Refusal) → c_written (written_in x) ≡ c_written (written_in y) → x ≡ y
+written_said_once x y e = written_same x y (written_once (written_in x) (written_in y) e)
 
 -- every answer has one of the numbers 0, 4, 6, 7, 8 and 9
 pub nx584_write_numbers : (κs : Lfts 2) (a : Dens κs write-kinds.ps)

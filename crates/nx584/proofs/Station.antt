@@ -35,11 +35,15 @@ use Rattle.nx584.proofs.nx584_make_room.Reads as room
 use Rattle.nx584.proofs.nx584_newest.Kinds as newest-kinds
 use Rattle.nx584.proofs.nx584_newest.Reads as newest
 
--- C's numbers tell the answer: two answers of `find` that have the same are one
-pub found_once : {p q : Place} (x y : Result (Option Found) Refusal) → Finds p x → Finds q y
+-- C's numbers tell the place
+pub found_once : (f g : Place) → c_found f ≡ c_found g → f ≡ g
+found_once f g e = ap (λ (c : CFound). record { number = c.number; at = c.at; length = c.length }) e
+
+-- and the answer: two answers of `find` that have the same are one
+pub found_said_once : {p q : Place} (x y : Result (Option Found) Refusal) → Finds p x → Finds q y
     → c_found (place_in x) ≡ c_found (place_in y) → x ≡ y
-found_once x y f g e =
-    let same : place_in x ≡ place_in y = ap (λ (c : CFound). record { number = c.number; at = c.at; length = c.length }) e in
+found_said_once x y f g e =
+    let same : place_in x ≡ place_in y = found_once (place_in x) (place_in y) e in
     places_same x y same (f.none ∙ ap (λ (p : Place). eqb p.length 0) (sym f.says ∙ same ∙ g.says) ∙ sym g.none)
 
 -- a station whose log no call refuses

@@ -9,6 +9,7 @@ pub mod Rebuilt
 pub mod Rewritten
 pub mod Which
 pub mod Making
+pub mod Filling
 pub mod Celled
 pub mod Moving
 pub mod Covered

@@ -129,6 +129,13 @@ ascii_size m = let all = pieces_length Ascii m in let message = ascii_length m i
 pub sums_first : (L : ℕ) → stepped (record { one = 0; two = 0 }) L ≡ sums_of (L ∷ [])
 sums_first L = ap (λ s. stepped s L) (sym sums_none) ∙ sym (sums_more [] L)
 
+-- and of one message byte more
+pub sums_next : (L : ℕ) (m : List ℕ) (i : ℕ) → i < length m
+    → stepped (sums_of (L ∷ take i m)) (get_or m i 0) ≡ sums_of (L ∷ take (i + 1) m)
+sums_next L m i h =
+    let places : suc i + 1 ≡ suc (i + 1) = omega arith in
+    sums_turn (L ∷ m) (suc i) (omega arith) ∙ ap (λ k. sums_of (take k (L ∷ m))) places
+
 -- a piece fits behind what was put, where both fit from the beginning on
 pub next_fits : {l a l' : List ℕ} {n : ℕ} (b : List ℕ) → Put l 0 a l' n → length a + length b ≤ length l
     → n + length b ≤ length l'
@@ -148,14 +155,10 @@ pub byte_stands : {l l' l'' : List ℕ} {n k : ℕ} (f : Framing) (m : List ℕ)
     → Put l 0 (to_byte f m (i + 1)) l'' k
 byte_stands f m i h p q = rw (← to_byte_more f m i h) (put_then p q)
 
-pub sums_next : {s s' : Sums} (m : List ℕ) (i : ℕ) → i < length m → s' ≡ stepped s (get_or m i 0)
+-- the turn of a loop that sums it
+pub sums_loop : {s s' : Sums} (m : List ℕ) (i : ℕ) → i < length m → s' ≡ stepped s (get_or m i 0)
     → s ≡ sums_of (length m ∷ take i m) → s' ≡ sums_of (length m ∷ take (i + 1) m)
-sums_next m i h e p =
-    let places : suc i + 1 ≡ suc (i + 1) = omega arith in
-    e
-    ∙ ap (λ s. stepped s (get_or m i 0)) p
-    ∙ sums_turn (length m ∷ m) (suc i) (omega arith)
-    ∙ ap (λ k. sums_of (take k (length m ∷ m))) places
+sums_loop m i h e p = e ∙ ap (λ s. stepped s (get_or m i 0)) p ∙ sums_next (length m) m i h
 
 -- after the last one the message stands, and the sums are whole
 pub message_stands : {l l' : List ℕ} {n : ℕ} (f : Framing) (m : List ℕ) (i : ℕ) → length m ≤ i

@@ -1,18 +1,21 @@
 -- A read says at most one verdict, and its message stands in the reader's array: so that what is handed out follows
 -- from the verdict and the reader, whatever the reader was. Assumes nothing.
-use Prim.Native.Nat.{ℕ}
+use Prim.Native.Nat.{ℕ, zero, suc, ◌+◌}
 use mathlib.Core.Path.{◌≡◌, refl, ap, ◌∙◌}
 use mathlib.Core.Bool.{Bool, true, false}
 use mathlib.Core.List.{List, [], ◌∷◌, map, cons≢nil, nil≢cons, head-eq_of_cons-eq}
-use lib.ListN.{length, drop}
+use lib.ListN.{length, get_or, drop, replicate}
 use Rattle.std.specs.Prelude.{Option}
+use Rattle.standard.specs.declared.Framing.{Framing}
+use Rattle.standard.specs.declared.Escapes.{Escapes}
 use Rattle.standard.specs.declared.Verdict.{Verdict}
 use Rattle.std.specs.Prelude.{Some, None}
 use Rattle.standard.specs.Words.{laid}
+use Rattle.standard.specs.Messages.{longest}
 use Rattle.standard.specs.Judge.{Handed, verdict_for, verdicts_in, handed_in}
 use Rattle.standard.proofs.Refusals.{of_the_stream}
 use Rattle.reader.specs.declared.Reader.{Reader}
-use Rattle.reader.specs.Read.{Given, scan_of, state_of, sound_reader, read_of}
+use Rattle.reader.specs.Read.{Given, scan_of, state_of, sound_reader, fresh_reader, read_of}
 use Rattle.reader.proofs.State.Kept.{Hands, keeps_scan}
 use Rattle.reader.proofs.State.Arrays.{laid_front, read_sound, read_unsound}
 
@@ -74,3 +77,19 @@ pub sound_verdict : (r : Reader) (bs : List ℕ) (h : Handed) (hs : List Handed)
 sound_verdict r bs h hs k e =
     let said : (scan_of r.escapes (state_of r) bs).said ≡ h ∷ hs = rw (read_sound r bs k) at e in
     rw said at (keeps_scan r.escapes (state_of r) bs).sheet
+
+-- an unsound one gives 12, which carries nothing, uses no byte and comes back
+pub unsound_verdict : (r : Reader) (bs : List ℕ) → sound_reader r ≡ false
+    → read_of r bs ≡ record { reader = r; used = 0; said = record { verdict = 12; type_byte_of = 0; message = [] } ∷ [] }
+unsound_verdict r bs h = read_unsound r bs h
+
+-- ---- a fresh reader
+
+zeros : (n i : ℕ) → ◌≡◌ {A = ℕ} (get_or (replicate n 0) i 0) 0
+zeros zero i = refl
+zeros (suc n) zero = refl
+zeros (suc n) (suc i) = zeros n i
+
+-- every byte of its array is 0
+pub fresh_zero : (rule : Escapes) (f : Framing) (i : ℕ) → get_or (fresh_reader rule f).bytes i 0 ≡ 0
+fresh_zero rule f i = zeros (longest + 3) i

@@ -8,6 +8,7 @@ use mathlib.Core.List.{List, [], ◌∷◌, ◌++◌}
 use lib.Dec.{eqb, leb, eqb-suc-zero}
 use lib.ListN.{length, get_or, take, length-take}
 use borrow.Author.Tests.{leb-true, le-leb}
+use Rattle.standard.specs.declared.Framing.{Framing}
 use Rattle.standard.specs.declared.Framing.TheVariants.{Binary, Ascii}
 use Rattle.standard.specs.declared.Escapes.{Escapes}
 use Rattle.standard.specs.Messages.{longest, length_ok}
@@ -96,7 +97,12 @@ no_258_digit d = refl
 
 -- ---- what no stream shows
 
--- an array without bytes holds none
+-- between frames a reader that holds bytes, as none met does, is sound where one in a frame is
+pub sound_between : (f : Framing) (n L : ℕ) → sound_with (Skipping f) n L ≡ sound_with (Open f) n L
+sound_between Binary n L = refl
+sound_between Ascii n L = refl
+
+-- and an array without bytes holds none
 pub sound_empty : (rule : Escapes) (m : Mode) (n : ℕ)
     → sound_reader (record { mode = m; held = suc n; bytes = []; escapes = rule }) ≡ false
 sound_empty rule m n = rw (eqb-suc-zero n)

@@ -3,8 +3,8 @@ use Rattle.std.proofs.Common.{ℕ, List, ap, ◌∙◌, ◌-◌, slice_set, arit
 use Rattle.std.specs.List.{copy_within}
 use Rattle.commands.specs.declared.Slot.{Slot}
 use Rattle.commands.specs.Commands.{blank}
-use Rattle.commands.proofs.Held.{some_wait, waits_most}
-use Rattle.commands.proofs.Slotwise.{moves}
+use Rattle.commands.proofs.Held.{some_wait}
+use Rattle.commands.proofs.Slotwise.{waits_most, moves}
 use Rattle.commands.proofs.Outstanding.moved_up.Goals as goal
 
 pub copy_within-requires-clause-start_le_end : goal.copy_within-requires-clause-start_le_end
@@ -12,11 +12,11 @@ copy_within-requires-clause-start_le_end c =
     omega (arith, c.waiting-used.ensures, some_wait c.args.self.now.line c.args.self.now.used c.args.self.now.sound)
 
 pub copy_within-requires-clause-in_bounds : goal.copy_within-requires-clause-in_bounds
-copy_within-requires-clause-in_bounds c = omega (arith, c.waiting-used.ensures, waits_most c.args.self.now.line c.args.self.now.sound)
+copy_within-requires-clause-in_bounds c = omega (arith, c.waiting-used.ensures, waits_most c.args.self.now.line)
 
 pub copy_within-requires-clause-dest_in_bounds : goal.copy_within-requires-clause-dest_in_bounds
 copy_within-requires-clause-dest_in_bounds c =
-    omega (arith, c.waiting-used.ensures, waits_most c.args.self.now.line c.args.self.now.sound)
+    omega (arith, c.waiting-used.ensures, waits_most c.args.self.now.line)
 
 pub overflow_sub-line : goal.overflow_sub-line
 overflow_sub-line c =

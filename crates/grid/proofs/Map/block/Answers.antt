@@ -12,7 +12,7 @@ use Rattle.standard.proofs.Seen.{run_whole}
 use Rattle.grid.specs.declared.Level.{Level}
 use Rattle.grid.specs.Grid.{wide, side, heard_cell, faulted_cell}
 use Rattle.grid.proofs.Blocks.{heard_rows, faulted_rows, run_bounded}
-use Rattle.grid.proofs.Rows.{inside}
+use Rattle.grid.proofs.Rows.{inside_level}
 use Rattle.grid.proofs.Map.block.Invariants.{heard_row, faulted_row, Rows}
 use Rattle.grid.proofs.Map.block.Goals as goal
 
@@ -28,8 +28,8 @@ module _ (t : List ℕ) (level : Level) (n row column : ℕ) (is : n ≡ side le
       → r ≡ run_of t (16 * (n * row + i) + n * column) n → Row t n (n * row) (n * column) i r
   turn r i whole among more e =
       let from = 16 * (n * row + i) + n * column in
-      let high : n * row + n ≤ 16 = rw is (inside level row among.0) in
-      let far : n * column + n ≤ 16 = rw is (inside level column among.1) in
+      let high : n * row + n ≤ 16 = rw is (inside_level level row among.0) in
+      let far : n * column + n ≤ 16 = rw is (inside_level level column among.1) in
       let counts = e ∙ run_whole t from n whole (omega arith) in
       let b = run_bounded t from n in
       let heard = ap (λ (r : Counts). r.heard) counts in

@@ -4,7 +4,7 @@ use Rattle.std.proofs.Common.{ℕ, List, ◌≤◌, length, take_all, ap, ◌∙
 use Rattle.standard.specs.declared.Framing.TheVariants.{Binary}
 use Rattle.standard.specs.declared.Sums.{Sums}
 use Rattle.standard.specs.Framing.{coded, coding}
-use Rattle.writer.proofs.Pieces.{coding_none, length_more, pieces_length, sums_first, sums_next, sums_whole}
+use Rattle.writer.proofs.Pieces.{coding_none, length_more, pieces_length, sums_first, sums_loop, sums_whole}
 use Rattle.writer.proofs.Frame.binary_length.Goals as goal
 
 pub loop-b-init : goal.loop-b-init
@@ -24,7 +24,7 @@ loop-b-preserved c =
     record {
       small = omega (arith, l.invariant.small, c.stuffed_length-size-in-loop-b.ensures.upper_bound);
       size = omega (arith, more, l.invariant.size, c.stuffed_length-size-in-loop-b.ensures.value);
-      sums = sums_next m l.b-index c.loop-b-test.true c.with-sums-in-loop-b.ensures l.invariant.sums;
+      sums = sums_loop m l.b-index c.loop-b-test.true c.with-sums-in-loop-b.ensures l.invariant.sums;
     }
 
 pub returns : goal.returns

@@ -3,7 +3,7 @@ use Rattle.std.proofs.Common.{◌∙◌, arith, length-set}
 use Rattle.standard.specs.Framing.{stop_of, coded}
 use Rattle.standard.proofs.Put.{put_then}
 use Rattle.writer.proofs.Pieces as pieces
-use Rattle.writer.proofs.Pieces.{sums_first, next_fits, length_stands, byte_stands, message_stands, sums_whole, sums_next}
+use Rattle.writer.proofs.Pieces.{sums_first, next_fits, length_stands, byte_stands, message_stands, sums_whole, sums_loop}
 use Rattle.writer.proofs.Frame.put.Goals as goal
 
 pub bounds-out-0 : goal.bounds-out-0
@@ -39,7 +39,7 @@ loop-b-preserved c =
     let more = c.loop-b-test.true in
     record {
       stands = byte_stands s.framing s.message.now l.b-index more l.invariant.stands c.put_coded-next-in-loop-b.ensures;
-      sums = sums_next s.message.now l.b-index more c.with-sums-in-loop-b.ensures l.invariant.sums;
+      sums = sums_loop s.message.now l.b-index more c.with-sums-in-loop-b.ensures l.invariant.sums;
     }
 
 pub put_coded-next-requires-2 : goal.put_coded-next-requires-2
