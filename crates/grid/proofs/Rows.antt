@@ -1,6 +1,6 @@
 -- Laws of cells one after another: four bytes each, and each a number or "not heard". Assumes nothing.
 use Prim.Native.Nat.{ℕ, zero, suc, ◌+◌, ◌*◌, ◌≤◌, ◌<◌}
-use native.Mathlib.Nat.{mul_comm, suc-mul, mul-suc, mul-le-mul_left}
+use native.Mathlib.Nat.{mul_comm, suc-mul, mul-suc, mul-le-mul_left, mul-le-mul_right}
 use native.Mathlib.Numerals.{add-one}
 use native.Mathlib.Omega.{arith}
 use mathlib.Core.Path.{◌≡◌, refl, sym, ap, ap₂, ◌∙◌, subst}
@@ -80,6 +80,12 @@ pub inside : (n w k : ℕ) → n * w ≡ 16 → k < w → n * k + n ≤ 16
 inside n w k h b =
     let most = mul-le-mul_left n b in
     omega (arith, mul-suc n k, most, h)
+
+-- and of w parts of so many bytes each there is room for the next
+pub room_for : (size w k : ℕ) → k < w → k * size + size ≤ w * size
+room_for size w k b =
+    let most = mul-le-mul_right size b in
+    omega (arith, suc-mul k size, most)
 
 -- ---- the levels
 
