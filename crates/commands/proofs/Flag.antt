@@ -34,14 +34,21 @@ flagged_length [] = refl
 flagged_length (t ∷ m) = refl
 
 -- the flag is set in the first byte, and zeros stand beyond the message as before
+pub flag_first : (m : List ℕ) → 1 ≤ length m
+    → set (padded m) 0 (128 + get_or (padded m) 0 0 % 128) ≡ padded (flagged m)
+unfolding flagged
+flag_first [] h = absurd (omega (arith, h))
+flag_first (t ∷ m) h = refl
+
+-- and so it is as the code sets it, by its bit
 set_bit : (t : ℕ) → t < 256 → bit_or t 128 ≡ 128 + t % 128
 set_bit t h = eqb-true _ _ (alike (λ (n : ℕ). eqb (bit_or n 128) (128 + n % 128)) (λ (n : ℕ). true) 256 tt t h)
 
-pub flag_first : (m : List ℕ) → 1 ≤ length m → byte 1 m < 256
+pub flag_bit : (m : List ℕ) → 1 ≤ length m → byte 1 m < 256
     → set (padded m) 0 (bit_or (get_or (padded m) 0 0) 128) ≡ padded (flagged m)
 unfolding flagged
-flag_first [] h b = absurd (omega (arith, h))
-flag_first (t ∷ m) h b = ap (λ (n : ℕ). set (padded (t ∷ m)) 0 n) (set_bit t b)
+flag_bit [] h b = absurd (omega (arith, h))
+flag_bit (t ∷ m) h b = ap (λ (n : ℕ). set (padded (t ∷ m)) 0 n) (set_bit t b)
 
 -- beyond a message in its array stand zeros
 drop_zeros : (n k : ℕ) → drop n (replicate {A = ℕ} k 0) ≡ replicate (k - n) 0
