@@ -331,6 +331,17 @@ room_laid n e frame plain now r held size l =
           ∙ sym (append_assoc (take n frame) more (drop (n + length more) frame)),
     )
 
+-- bytes are laid after the n that are held, and counted
+pub record LaidAfter (n : ℕ) (frame more : List ℕ) (r : ℕ) (after : List ℕ) : Type 0 where
+  pub count : r ≡ length more
+  pub lays : after ≡ laid frame n more
+
+-- those that a frame takes, with their number and how many bytes of the line they are
+pub takes_grown : (f : Framing) (n : ℕ) (frame bytes : List ℕ) (r used : ℕ) (after : List ℕ)
+    → LaidAfter n frame (growth f n frame bytes) r after → used ≡ span f r
+    → TakesPlain f n frame bytes (record { count = r; used = used }) after
+takes_grown f n frame bytes r used after w e = record { count = w.count; used = e ∙ ap (span f) w.count; lays = w.lays }
+
 module _ (f : Framing) (n : ℕ) (frame bytes : List ℕ) where
   pub takes_none : (taken : Taken) → (taken.count ≡ 0) × (taken.used ≡ 0) → growth f n frame bytes ≡ []
       → TakesPlain f n frame bytes taken frame
@@ -371,8 +382,8 @@ module _ (f : Framing) (n : ℕ) (frame bytes : List ℕ) where
       let grown = ap (λ x. take (x - n) (plain_of f bytes)) (at ∙ ap (λ x. x + beyond f) is)
       ∙ growth_run f n frame bytes held size (ap length_ok (sym is) ∙ k) in
       let t = room_laid n end frame (plain_of f bytes) now r left (omega (arith, at, beyond_few f)) l in
-      let count = t.0 ∙ ap length grown in
-      record { count = count; used = u ∙ ap (span f) count; lays = t.1 ∙ ap (laid frame n) grown }
+      takes_grown f n frame bytes r used (put_mid n (end - n) frame now)
+      (record { count = t.0 ∙ ap length grown; lays = t.1 ∙ ap (laid frame n) grown }) u
 
   -- and all that it takes stand there
   pub takes_all : (L : ℕ) → n ≤ longest + 3 → longest + 3 ≤ length frame
@@ -411,14 +422,3 @@ within f (suc k) bs (x ∷ plain) e h =
     let later = within f k (drop (span f 1) bs) plain a.rest (omega arith) in
     let n : span f 1 + span f k ≡ span f (suc k) = span_more f 1 k ∙ ap (span f) (omega arith) in
     omega (arith, n, later, a.within, length-drop (span f 1) bs)
-
--- bytes are laid after the n that are held, and counted
-pub record LaidAfter (n : ℕ) (frame more : List ℕ) (r : ℕ) (after : List ℕ) : Type 0 where
-  pub count : r ≡ length more
-  pub lays : after ≡ laid frame n more
-
--- those that a frame takes, with their number and how many bytes of the line they are
-pub takes_grown : (f : Framing) (n : ℕ) (frame bytes : List ℕ) (r used : ℕ) (after : List ℕ)
-    → LaidAfter n frame (growth f n frame bytes) r after → used ≡ span f r
-    → TakesPlain f n frame bytes (record { count = r; used = used }) after
-takes_grown f n frame bytes r used after w e = record { count = w.count; used = e ∙ ap (span f) w.count; lays = w.lays }
